@@ -1,0 +1,8 @@
+-- Laws of the definitions of specs/, for every crate above.
+pub mod Listed
+pub mod First
+pub mod Rows
+pub mod Grid
+pub mod Parts
+pub mod Areas
+pub mod Sums

@@ -1,0 +1,56 @@
+-- Laws of sums, counts and tests over an index function, one for each step that a loop takes.
+use Prim.Native.Nat.{ℕ, zero, suc, _+_, _<_, _≤_}
+use mathlib.Core.Path.{_≡_, refl, sym, ap}
+use mathlib.Core.Bool.{Bool, true, false, cond, _&&_}
+use native.Mathlib.Numerals.{add-one}
+use native.Mathlib.Omega.{arith}
+use native.Mathlib.Nat.{eq-or-lt-of-le}
+use mathlib.Core.Logic.{⊎-elim}
+use lib.Ieee.{Float, add, binary64}
+use Rattle.lists.specs.Sums.{sumTo, allTo, foldIf, countIf}
+
+-- one more term
+pub sum-more : (f : ℕ → Float) (i : ℕ) {s : Float} → s ≡ sumTo f i → add binary64 s (f i) ≡ sumTo f (i + 1)
+unfolding sumTo
+sum-more f i e = rw (add-one, e)
+
+-- the sums of two index functions that agree below n
+pub sum-same : (f g : ℕ → Float) (n : ℕ) → ((k : ℕ) → k < n → f k ≡ g k) → sumTo f n ≡ sumTo g n
+unfolding sumTo
+sum-same f g zero h = refl
+sum-same f g (suc n) h = rw (sum-same f g n (λ k l. h k (omega arith)), h n (omega arith))
+
+-- one more place passes
+pub all-more : (p : ℕ → Bool) (i : ℕ) → allTo p i ≡ true → p i ≡ true → allTo p (i + 1) ≡ true
+unfolding allTo
+all-more p i h t = rw (add-one, h, t)
+
+and-false : (b : Bool) → false ≡ b && false
+and-false true = refl
+and-false false = refl
+
+-- one place below n fails
+pub all-fails : (p : ℕ → Bool) (n k : ℕ) → k < n → p k ≡ false → false ≡ allTo p n
+unfolding allTo
+all-fails p zero k l e = absurd (omega arith)
+all-fails p (suc n) k l e =
+    ⊎-elim (λ q. rw (← q, e) (and-false (allTo p k))) (λ q. rw (← all-fails p n k q e)) (eq-or-lt-of-le {n = k} {m = n} (omega arith))
+
+-- a place that counts, and one that does not
+pub fold-in : {A : Type 0} (p : ℕ → Bool) (g : A → ℕ → A) (a : A) (j : ℕ) → p j ≡ true → foldIf p g a (j + 1) ≡ g (foldIf p g a j) j
+unfolding foldIf
+fold-in p g a j e = rw (add-one, e)
+
+pub fold-out : {A : Type 0} (p : ℕ → Bool) (g : A → ℕ → A) (a : A) (j : ℕ) → p j ≡ false → foldIf p g a (j + 1) ≡ foldIf p g a j
+unfolding foldIf
+fold-out p g a j e = rw (add-one, e)
+
+cond-le : (b : Bool) (x n : ℕ) → x ≤ n → cond b (x + 1) x ≤ suc n
+cond-le true x n h = omega arith
+cond-le false x n h = omega arith
+
+-- the count of the places below n is at most n
+pub count-le : (p : ℕ → Bool) (n : ℕ) → countIf p n ≤ n
+unfolding foldIf
+count-le p zero = omega arith
+count-le p (suc n) = cond-le (p n) (countIf p n) n (count-le p n)

@@ -1,0 +1,55 @@
+-- `lists::fill_numbers` meets its contract: after i turns the first i places hold x.
+use mathlib.Core.Path.{_≡_, refl, _∙_}
+use Prim.Native.Nat.{_-_, _≤_}
+use native.Mathlib.Omega.{arith}
+use borrow.Author.Needs.{needs}
+use lib.ListN.{length, length-set}
+use Rattle.lists.proofs.Listed.{writes, writes-more, writes-done, listed-const}
+use Rattle.lists.proofs.fill_numbers.Statement.{statement}
+use Rattle.lists.proofs.fill_numbers.Tie as tie
+
+abbrev Inv-loop : tie.InvT-loop
+Inv-loop xs₀ x n i₀ xs i = (n ≡ length xs₀) × (i ≤ n) × (length xs ≡ n) × (xs ≡ writes (λ k. x) i xs₀)
+
+abbrev μ-loop : tie.MeasureT-loop
+μ-loop xs₀ x n i₀ xs i = n - i
+
+loop-holds : tie.Need-loop-holds Inv-loop μ-loop
+unfolding writes
+loop-holds c = (refl, search needs, refl, refl)
+
+mul-xs : tie.Need-mul-xs Inv-loop μ-loop
+mul-xs c = search needs
+
+slice-write-xs : tie.Need-slice-write-xs Inv-loop μ-loop
+slice-write-xs c = search needs
+
+add-i : tie.Need-add-i Inv-loop μ-loop
+add-i c = search needs
+
+loop-less : tie.Need-loop-less Inv-loop μ-loop
+loop-less c = search needs
+
+loop-again : tie.Need-loop-again Inv-loop μ-loop
+loop-again c = (search needs, search needs, simp length-set (search needs), writes-more _ _ _ (c .before .loop .inv .3))
+
+same-length : tie.Need-same-length Inv-loop μ-loop
+same-length c = search needs
+
+returns : tie.Need-returns Inv-loop μ-loop
+returns c = writes-done 0 _ _ _ _ (c .before .loop .inv .3) (omega arith) refl ∙ listed-const _ _
+
+pub fill-numbers-spec : {M : Type 1} → statement M
+fill-numbers-spec =
+    tie.close
+    (tie.spec
+    Inv-loop
+    μ-loop
+    loop-holds
+    mul-xs
+    slice-write-xs
+    add-i
+    loop-less
+    loop-again
+    same-length
+    returns)

@@ -1,0 +1,39 @@
+-- Sums, counts and tests over the first k places of an index function. Definitions only.
+use Prim.Native.Nat.{ℕ, zero, suc, _+_}
+use mathlib.Core.Bool.{Bool, true, false, cond, _&&_}
+use lib.IntN.{pos}
+use lib.Ieee.{Float, fin, add, sub, mul, ofInt, binary64}
+
+-- +0
+abbrev pub zero64 : Float
+zero64 = fin false 0 (pos 0)
+
+-- the double nearest a count, which is the count itself up to 2 ^ 53
+abbrev pub counted : ℕ → Float
+counted n = ofInt binary64 (pos n)
+
+-- f 0 + f 1 + .. + f (k - 1), from the left, from +0, rounded at each step
+unfoldable pub sumTo : (ℕ → Float) → ℕ → Float
+sumTo f zero = zero64
+sumTo f (suc k) = add binary64 (sumTo f k) (f k)
+
+-- the square of x - m
+abbrev pub squareFrom : Float → Float → Float
+squareFrom m x = mul binary64 (sub binary64 x m) (sub binary64 x m)
+
+-- whether p holds at each place below k
+unfoldable pub allTo : (ℕ → Bool) → ℕ → Bool
+allTo p zero = true
+allTo p (suc k) = allTo p k && p k
+
+-- a, after g at each place k below n with p k, by rising place
+unfoldable pub foldIf : {A : Type 0} → (ℕ → Bool) → (A → ℕ → A) → A → ℕ → A
+foldIf p g a zero = a
+foldIf p g a (suc k) = cond (p k) (g (foldIf p g a k) k) (foldIf p g a k)
+
+-- the terms f k with p k, for k below n, summed from the left, from +0; and how many they are
+abbrev pub sumIf : (ℕ → Bool) → (ℕ → Float) → ℕ → Float
+sumIf p f n = foldIf p (λ s k. add binary64 s (f k)) zero64 n
+
+abbrev pub countIf : (ℕ → Bool) → ℕ → ℕ
+countIf p n = foldIf p (λ c k. c + 1) 0 n

@@ -1,0 +1,66 @@
+// Filling, copying, searching and reading of lent lists: the inner forms that the crates above share.
+// Their callers know the lengths, so they ask for them.
+ghost use mathlib.Core.Path.{_≡_};
+ghost use Prim.Native.Nat.{_≤_, _<_, _*_};
+ghost use lib.ListN.{length, replicate};
+ghost use Rattle.lists.specs.Lists.{row, firstFrom};
+
+// x in each place.
+pub fn fill(xs: &mut [f64], x: f64)
+    ensures { λ _. ⌜ now (xs .exit) ≡ replicate (length (now (xs .entry))) x ⌝ }
+{
+    let n = xs.len();
+    for i in 0..n {
+        xs[i] = x;
+    }
+}
+
+pub fn fill_numbers(xs: &mut [usize], x: usize)
+    ensures { λ _. ⌜ now (xs .exit) ≡ replicate (length (now (xs .entry))) x ⌝ }
+{
+    let n = xs.len();
+    for i in 0..n {
+        xs[i] = x;
+    }
+}
+
+// The first list over the second. Inner form: they are as long as each other.
+pub fn copy(from: &[f64], to: &mut [f64])
+    requires { ⌜ length (now from) ≡ length (now to) ⌝ }
+    ensures { λ _. ⌜ now (to .exit) ≡ now (from .entry) ⌝ }
+{
+    let n = from.len();
+    for i in 0..n {
+        to[i] = from[i];
+    }
+}
+
+// Row i of a matrix of n rows of n cells, which the list begins with. Inner form.
+pub fn row_of(p: &[f64], n: usize, i: usize) -> &[f64]
+    requires { ⌜ (n ≤ 256) × (n * n ≤ length (now p)) × (i < n) ⌝ }
+    ensures { λ r. ⌜ now r ≡ row (now (p .entry)) n i ⌝ }
+{
+    let at = i * n;
+    let end = at + n;
+    &p[at..end]
+}
+
+// The first place of a number that is not below the limit, and the list's length where there is none.
+pub fn first_from(limit: usize, xs: &[usize]) -> usize
+    ensures { λ r. ⌜ r ≡ firstFrom limit (now (xs .entry)) ⌝ }
+{
+    let n = xs.len();
+    for k in 0..n {
+        if limit <= xs[k] {
+            return k;
+        }
+    }
+    n
+}
+
+// Room for a row of cells. Only its length is promised, so that no proof goes through 256 cells.
+pub fn row_buffer() -> [f64; 256]
+    ensures { λ r. ⌜ length r ≡ 256 ⌝ }
+{
+    [0.0; 256]
+}

@@ -1,0 +1,2 @@
+-- Laws of the table, for the calls of the crates above.
+pub mod Laws

@@ -1,0 +1,78 @@
+// What a call on lent lists answers, and the checks that every such call makes, in the table's order.
+ghost use mathlib.Core.Path.{_≡_};
+ghost use Prim.Native.Nat.{_≤_, _*_};
+ghost use lib.Dec.{leb, eqb};
+ghost use Rattle.refusals.specs.Table.{numberOf, refusalOf, refusal, workDoubles};
+
+// Done, or the first row of the table that applies.
+pub enum Answer {
+    Done,
+    InvalidCorrelationMatrix,
+    TooLarge,
+    CellCount,
+    ListLength,
+    OutOfRange(usize),
+}
+
+// The table's number; 0 where nothing is refused.
+pub fn number_of(a: Answer) -> usize
+    ensures { λ r. ⌜ r ≡ numberOf a ⌝ }
+{
+    match a {
+        Answer::Done => 0,
+        Answer::InvalidCorrelationMatrix => 2,
+        Answer::TooLarge => 4,
+        Answer::CellCount => 5,
+        Answer::ListLength => 6,
+        Answer::OutOfRange(_k) => 10,
+    }
+}
+
+// Whether a list has the length of a matrix of m rows, for at most 256 rows; false for more, where 4 comes first.
+pub fn is_square(length: usize, m: usize) -> bool
+    ensures { λ r. ⌜ (m ≤ 256 → r ≡ eqb length (m * m)) ⌝ }
+{
+    if m > 256 {
+        return false;
+    }
+    length == m * m
+}
+
+// Whether a working list has room for m names; false for more than 256, where 4 comes first.
+pub fn has_room(length: usize, m: usize) -> bool
+    ensures { λ r. ⌜ (m ≤ 256 → r ≡ leb (workDoubles m) length) ⌝ }
+{
+    if m > 256 {
+        return false;
+    }
+    8 * (m * m) + 256 * m <= length
+}
+
+// The first row that applies: `cells` cells of a book of n columns, of which m rows are read, other lists that fit or
+// not, and the place of the first bad number among `count`.
+pub fn check(cells: usize, n: usize, m: usize, fits: bool, bad: usize, count: usize) -> Answer
+    ensures { λ r. ⌜ refusalOf r ≡ refusal cells n m fits bad count ⌝ }
+{
+    if n < 2 {
+        return Answer::InvalidCorrelationMatrix;
+    }
+    if m < 2 {
+        return Answer::InvalidCorrelationMatrix;
+    }
+    if n > 256 {
+        return Answer::TooLarge;
+    }
+    if m > 256 {
+        return Answer::TooLarge;
+    }
+    if cells != n * n {
+        return Answer::CellCount;
+    }
+    if !fits {
+        return Answer::ListLength;
+    }
+    if bad < count {
+        return Answer::OutOfRange(bad);
+    }
+    Answer::Done
+}
