@@ -1,0 +1,14 @@
+use mathlib.Core.Path.{refl}
+use lib.Ieee.{ofBits, div}
+use borrow.Author.Needs.{needs}
+use Rattle.stats.proofs.infinity.Statement.{statement}
+use Rattle.stats.proofs.infinity.Tie as tie
+use Rattle.stats.proofs.infinity.Reads as reads
+use Rattle.stats.proofs.infinity.Lts as lts
+
+returns : tie.Need-returns
+unfolding ofBits div
+returns c = refl
+
+pub infinity-spec : {M : Type 1} → statement M
+infinity-spec = tie.close (tie.spec returns)
