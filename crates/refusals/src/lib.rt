@@ -2,7 +2,7 @@
 ghost use mathlib.Core.Path.{_≡_};
 ghost use Prim.Native.Nat.{_≤_, _*_};
 ghost use lib.Dec.{leb, eqb};
-ghost use Rattle.refusals.specs.Table.{numberOf, refusalOf, refusal, workDoubles};
+ghost use Rattle.refusals.specs.Table.{numberOf, placeOf, refusalOf, refusal, workDoubles};
 
 // Done, or the first row of the table that applies.
 pub enum Answer {
@@ -25,6 +25,20 @@ pub fn number_of(a: Answer) -> usize
         Answer::CellCount => 5,
         Answer::ListLength => 6,
         Answer::OutOfRange(_k) => 10,
+    }
+}
+
+// The table's place; 0 where it names none.
+pub fn place_of(a: Answer) -> usize
+    ensures { λ r. ⌜ r ≡ placeOf a ⌝ }
+{
+    match a {
+        Answer::Done => 0,
+        Answer::InvalidCorrelationMatrix => 0,
+        Answer::TooLarge => 0,
+        Answer::CellCount => 0,
+        Answer::ListLength => 0,
+        Answer::OutOfRange(k) => k,
     }
 }
 

@@ -1,8 +1,8 @@
 use borrow.Author.Tests.{le-leb, le-ltb, lt-leb, lt-ltb}
 use borrow.Author.Needs.{needs}
-use Rattle.distance.specs.Leaves.{firstBad}
-use Rattle.distance.proofs.first_bad.Statement.{statement}
-use Rattle.distance.proofs.first_bad.Tie as tie
+use Rattle.squared.specs.Leaves.{firstBad}
+use Rattle.squared.proofs.first_bad.Statement.{statement}
+use Rattle.squared.proofs.first_bad.Tie as tie
 
 returns : tie.Need-returns
 unfolding firstBad

@@ -6,10 +6,10 @@ use borrow.Author.Needs.{needs}
 use Rattle.lists.specs.Lists.{firstFrom}
 use Rattle.refusals.proofs.Laws.{Accepted, accepted, passed}
 use Rattle.lists.proofs.First.{from-none}
-use Rattle.distance.specs.Leaves.{firstBad, squaredDistanceThrough}
-use Rattle.distance.proofs.Laws.{all-good, not-measured, was-measured}
-use Rattle.distance.proofs.squared_distance_through.Statement.{statement}
-use Rattle.distance.proofs.squared_distance_through.Tie as tie
+use Rattle.squared.specs.Leaves.{firstBad, squaredDistanceThrough}
+use Rattle.squared.proofs.Laws.{all-good, not-measured, was-measured}
+use Rattle.squared.proofs.squared_distance_through.Statement.{statement}
+use Rattle.squared.proofs.squared_distance_through.Tie as tie
 
 -- what is known behind the checks
 ok : (c : tie.Else1) → Accepted (length (c .before .before .before .before .before .args .book .now)) (c .before .before .before .before .before .args .n) (length (c .before .before .before .before .before .args .rows .now)) true (firstBad (firstFrom (c .before .before .before .before .before .args .n) (c .before .before .before .before .before .args .rows .now)) (length (c .before .before .before .before .before .args .rows .now)) (c .before .before .before .before .before .args .i) (c .before .before .before .before .before .args .j)) (length (c .before .before .before .before .before .args .rows .now) + 2)

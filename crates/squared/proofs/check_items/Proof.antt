@@ -1,8 +1,8 @@
 use mathlib.Core.Path.{_∙_}
 use borrow.Author.Needs.{needs}
 use Rattle.refusals.proofs.Laws.{many-rows}
-use Rattle.distance.proofs.check_items.Statement.{statement}
-use Rattle.distance.proofs.check_items.Tie as tie
+use Rattle.squared.proofs.check_items.Statement.{statement}
+use Rattle.squared.proofs.check_items.Tie as tie
 
 check-requires : tie.Need-check-requires
 check-requires c κs = search needs

@@ -6,9 +6,9 @@ use lib.Ieee.{ofBits}
 use borrow.Author.Needs.{needs}
 use Rattle.lists.specs.Sums.{squareFrom, sumTo}
 use Rattle.lists.proofs.Sums.{sum-more}
 use Rattle.distance.specs.Distance.{distAt, squaredAt}
-use Rattle.distance.proofs.squared_between.Statement.{statement}
-use Rattle.distance.proofs.squared_between.Tie as tie
+use Rattle.squared.proofs.squared_between.Statement.{statement}
+use Rattle.squared.proofs.squared_between.Tie as tie
 
 abbrev Inv-loop : tie.InvT-loop
 Inv-loop book n rows i j m sum₀ c₀ sum c = (m ≡ length rows) × (c ≤ m) × (sum ≡ sumTo (λ k. squareFrom (distAt book n rows j k) (distAt book n rows i k)) c)

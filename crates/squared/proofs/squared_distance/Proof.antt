@@ -7,9 +7,9 @@ use borrow.Author.Needs.{needs}
 use Rattle.lists.specs.Sums.{squareFrom, sumTo}
 use Rattle.lists.specs.Lists.{cells}
 use Rattle.lists.proofs.Sums.{sum-more}
-use Rattle.distance.specs.Leaves.{squaredDistance}
-use Rattle.distance.proofs.squared_distance.Statement.{statement}
-use Rattle.distance.proofs.squared_distance.Tie as tie
+use Rattle.squared.specs.Leaves.{squaredDistance}
+use Rattle.squared.proofs.squared_distance.Statement.{statement}
+use Rattle.squared.proofs.squared_distance.Tie as tie
 
 abbrev Inv-loop : tie.InvT-loop
 Inv-loop a b n sum₀ c₀ sum c = (n ≡ min (length a) (length b)) × (c ≤ n) × (sum ≡ sumTo (λ k. squareFrom (cells b k) (cells a k)) c)

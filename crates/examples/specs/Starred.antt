@@ -1,0 +1,92 @@
+-- The worked examples: a question to a definition, and its answer, in one table. `examples-hold` (proofs/Claim.antt) proves all of them.
+use Prim.Native.Nat.{ℕ}
+use mathlib.Core.Path.{_≡_}
+use mathlib.Core.Bool.{true, false}
+use mathlib.Core.List.{List, [], _∷_}
+use lib.ListN.{length}
+use lib.IntN.{pos, negsuc}
+use lib.Ieee.{Float, inf, fin}
+use Rattle.lists.specs.Lists.{listed, cells}
+use Rattle.sqrt.specs.Root.{root}
+use Rattle.stats.specs.Average as stats
+use Rattle.tstat.specs.Quality as quality
+use Rattle.silhouette.specs.Leaf.{scoreAt}
+
+-- which definition is asked, and of what
+pub data Question : Type 0 where
+  root-of : Float → Question
+  mean-of : List Float → Question
+  variance-of : List Float → ℕ → Question
+  tstat-of : List Float → Question
+  scores-of : List Float → List ℕ → Question
+
+-- an answer: the table's number, and the values
+pub record Answered : Type 0 where
+  pub number : ℕ
+  pub values : List Float
+
+unfoldable pub given : stats.Averaged → Answered
+given a = record { number = a .number; values = a .values }
+
+unfoldable pub values : List Float → Answered
+values xs = record { number = 0; values = xs }
+
+unfoldable pub answer : Question → Answered
+answer (root-of x) = values (root x ∷ [])
+answer (mean-of xs) = given (stats.mean (cells xs) (length xs))
+answer (variance-of xs ddof) = given (stats.variance (cells xs) (length xs) ddof)
+answer (tstat-of xs) = given (quality.tstat (cells xs) (length xs))
+answer (scores-of pairs labels) = values (listed (scoreAt pairs (length labels) labels) (length labels))
+
+pub record Example : Type 0 where
+  pub asked : Question
+  pub expected : Answered
+
+-- m times 2 ^ e, and whole numbers
+abbrev pub scaled : ℕ → ℕ → Float
+scaled m e = fin false m (negsuc e)
+
+abbrev pub whole : ℕ → Float
+whole n = fin false n (pos 0)
+
+-- the answer that an average gives where there is none
+abbrev pub nothing : Answered
+nothing = record { number = 0; values = [] }
+
+abbrev pub one : Float → Answered
+one x = record { number = 0; values = x ∷ [] }
+
+-- 0.25, 0.5, 0.75; `scaled m e` is m * 2 ^ -(e + 1)
+abbrev pub quarter : Float
+quarter = scaled 1 1
+
+abbrev pub half : Float
+half = scaled 1 0
+
+abbrev pub table : List Example
+table =
+    -- the root of 0.25 is 0.5, of 4 is 2, of -0 is -0, of 2 ^ -1074 is 2 ^ -537
+    (record { asked = root-of quarter; expected = one half })
+    ∷ (record { asked = root-of (fin false 1 (pos 2)); expected = one (fin false 1 (pos 1)) })
+    ∷ (record { asked = root-of (fin true 0 (pos 0)); expected = one (fin true 0 (pos 0)) })
+    ∷ (record { asked = root-of (scaled 1 1073); expected = one (scaled 1 536) })
+    -- the mean of 1, 2, 6 is 3; of nothing there is none
+    ∷ (record { asked = mean-of (whole 1 ∷ whole 2 ∷ whole 6 ∷ []); expected = one (whole 3) })
+    ∷ (record { asked = mean-of []; expected = nothing })
+    -- the variance of 2, 4, 4, 4, 5, 5, 7, 9 with ddof 0 is 4; of one value with ddof 1 there is none
+    ∷ (record { asked = variance-of (whole 2 ∷ whole 4 ∷ whole 4 ∷ whole 4 ∷ whole 5 ∷ whole 5 ∷ whole 7 ∷ whole 9 ∷ []) 0; expected = one (whole 4) })
+    ∷ (record { asked = variance-of (whole 1 ∷ []) 1; expected = nothing })
+    -- the t-stat of 0.5, 0.5 is +infinity, of -0.5, -0.5 is 0
+    ∷ (record { asked = tstat-of (half ∷ half ∷ []); expected = one (inf false) })
+    ∷ (record { asked = tstat-of (fin true 1 (negsuc 0) ∷ fin true 1 (negsuc 0) ∷ []); expected = one (whole 0) })
+    -- pair distances 1 (0-1), 2 (0-2), 4 (1-2) with labels 0, 0, 1: scores 0.5, 0.75, 0
+    ∷ (record {
+      asked = scores-of (whole 0 ∷ whole 1 ∷ whole 2 ∷ whole 1 ∷ whole 0 ∷ whole 4 ∷ whole 2 ∷ whole 4 ∷ whole 0 ∷ []) (0 ∷ 0 ∷ 1 ∷ []);
+      expected = record { number = 0; values = half ∷ scaled 3 1 ∷ whole 0 ∷ [] };
+    })
+    ∷ []
+
+-- each question of the list has the answer that stands beside it
+unfoldable pub AllHold : List Example → Type 0
+AllHold [] = Unit
+AllHold (e ∷ es) = (answer (e .asked) ≡ e .expected) × AllHold es
