@@ -1,0 +1,1 @@
+-- One more group settled, and the scores when every group is.
