@@ -103,8 +103,8 @@ module _ (across : List Float) (labels : List ℕ) where
   }
 
   module _ (l : ℕ) {scores own : List Float} (before : Midway across labels l scores own) where
-    score-length : length scores ≡ n
-    score-length = listed-length (leastBelow across labels l) n (before .leasts)
+    pub midway-length : length scores ≡ n
+    midway-length = listed-length (leastBelow across labels l) n (before .leasts)
 
     -- a group with no member changes nothing
     pub midway-skip : (count : ℕ) → count ≡ groupSize name n l → count ≡ 0 → Midway across labels (l + 1) scores own
