@@ -2,3 +2,4 @@
 pub mod Members
 pub mod Least
 pub mod Turns
+pub mod Called

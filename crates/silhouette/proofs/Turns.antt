@@ -117,6 +117,7 @@ module _ (across : List Float) (labels : List ℕ) where
           means = λ i q b. before .means i q (apart (name i) l (outside i q) b);
           means-length = before .means-length;
         }
+
     -- a group with members
     pub midway-more : (count : ℕ) {sums scores′ own′ : List Float} → count ≡ groupSize name n l → (count ≡ 0 → ⊥) → sums ≡ listed (λ i. sumOf i l) n
         → own′ ≡ listed (atMembers name l (λ i. div binary64 (cells sums i) (counted (count - 1))) (cells own)) n

@@ -137,7 +137,14 @@ fn mark_members(labels: &[usize], l: usize, least: &mut [f64])
 
 // The means to the members of group l, of which there are `count`, from the sums: of its members into `own`, of all others
 // into `least` where they are below what stands there. A NaN there marks a lone member.
-fn settle(labels: &[usize], l: usize, count: usize, least: &mut [f64], sums: &mut [f64], own: &mut [f64])
+fn settle(
+    labels: &[usize],
+    l: usize,
+    count: usize,
+    least: &mut [f64],
+    sums: &mut [f64],
+    own: &mut [f64],
+)
     requires { ⌜ (0 < count) × (length (now least) ≡ length (now labels)) × (length (now sums) ≡ length (now labels)) × (length (now own) ≡ length (now labels)) ⌝ }
     ensures { λ _. ⌜ now (own .exit) ≡ listed (atMembers (numbers (now (labels .entry))) l (λ i. div binary64 (cells (now (sums .entry)) i) (counted (count - 1))) (cells (now (own .entry)))) (length (now (labels .entry))) ⌝ }
     ensures { λ _. ⌜ now (least .exit) ≡ listed (settled (numbers (now (labels .entry))) l count (cells (now (sums .entry))) (cells (now (least .entry)))) (length (now (labels .entry))) ⌝ }

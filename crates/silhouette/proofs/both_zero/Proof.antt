@@ -3,8 +3,6 @@ use borrow.Author.Needs.{needs}
 use Rattle.silhouette.proofs.both_zero.Statement.{statement}
 use Rattle.silhouette.proofs.both_zero.Tie as tie
 
-
-
 returns : tie.Need-returns
 unfolding ofBits
 returns c = rw (c .if1 .taken)

@@ -2,8 +2,6 @@ use borrow.Author.Needs.{needs}
 use Rattle.silhouette.proofs.larger.Statement.{statement}
 use Rattle.silhouette.proofs.larger.Tie as tie
 
-
-
 returns : tie.Need-returns
 returns c = rw (c .if1 .taken)
 

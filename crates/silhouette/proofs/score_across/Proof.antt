@@ -1,44 +1,40 @@
+use Prim.Native.Nat.{_≤_}
+use mathlib.Core.Path.{_∙_, sym}
+use native.Mathlib.Omega.{arith}
+use lib.ListN.{length}
+use lib.Seq.{length-take-le}
 use borrow.Author.Needs.{needs}
 use Rattle.silhouette.proofs.score_across.Statement.{statement}
 use Rattle.silhouette.proofs.score_across.Tie as tie
-use Rattle.silhouette.proofs.score_across.Reads as reads
-use Rattle.silhouette.proofs.score_across.Lts as lts
-use Rattle.lists.proofs.row_buffer.Reads as row-buffer-reads
-use Rattle.silhouette.proofs.scores_by_label.Reads as scores-by-label-reads
 
--- src/lib.rt:212:20
 row-buffer-requires : tie.Need-row-buffer-requires
 row-buffer-requires c κs = search needs
 
--- src/lib.rt:213:19
 row-buffer-requires-2 : tie.Need-row-buffer-requires-2
 row-buffer-requires-2 c κs = search needs
 
--- src/lib.rt:214:48
 array-borrow-prefix-sums : tie.Need-array-borrow-prefix-sums
 array-borrow-prefix-sums c = search needs
 
--- src/lib.rt:214:48
 slice-aggregate-scores-by-label : tie.Need-slice-aggregate-scores-by-label
-slice-aggregate-scores-by-label c = ?
+slice-aggregate-scores-by-label c = sym (length-take-le (c .before .before .before .before .before .before .before .args .n) (c .before .before .before .row-buffer .result) (omega (arith, c .before .before .before .row-buffer .ensures, c .before .before .before .before .before .before .before .pre .0 .few, c .before .before .before .before .before .before .before .pre .1 .1 .0)))
 
--- src/lib.rt:214:64
 array-borrow-prefix-own : tie.Need-array-borrow-prefix-own
 array-borrow-prefix-own c = search needs
 
--- src/lib.rt:214:64
 slice-aggregate-scores-by-label-2 : tie.Need-slice-aggregate-scores-by-label-2
-slice-aggregate-scores-by-label-2 c = ?
+slice-aggregate-scores-by-label-2 c = sym (length-take-le (c .before .before .before .before .before .before .before .before .args .n) (c .before .before .before .row-buffer2 .result) (omega (arith, c .before .before .before .row-buffer2 .ensures, c .before .before .before .before .before .before .before .before .pre .0 .few, c .before .before .before .before .before .before .before .before .pre .1 .1 .0)))
 
--- src/lib.rt:214:5
 scores-by-label-requires : tie.Need-scores-by-label-requires
-scores-by-label-requires c κs = ?
+scores-by-label-requires c κs =
+    let u : c .before .before .before .before .before .before .before .before .args .n ≤ length (c .before .before .before .before .row-buffer .result) = omega (arith, c .before .before .before .before .row-buffer .ensures, c .before .before .before .before .before .before .before .before .pre .0 .few, c .before .before .before .before .before .before .before .before .pre .1 .1 .0) in
+    let v : c .before .before .before .before .before .before .before .before .args .n ≤ length (c .before .before .before .row-buffer2 .result) = omega (arith, c .before .before .before .row-buffer2 .ensures, c .before .before .before .before .before .before .before .before .pre .0 .few, c .before .before .before .before .before .before .before .before .pre .1 .1 .0) in
+    let w : c .before .before .before .before .before .before .before .before .args .n ≤ length (c .before .before .before .before .before .before .before .before .args .labels .now) = omega (arith, c .before .before .before .before .before .before .before .before .pre .1 .1 .0) in
+    (c .before .before .before .before .before .before .before .before .pre .0, ((c .before .before .before .before .before .before .before .before .pre .1 .0, w), (c .before .before .before .before .before .before .before .before .pre .1 .1 .1, length-take-le (c .before .before .before .before .before .before .before .before .args .n) (c .before .before .before .before .row-buffer .result) u ∙ c .before .before .before .before .before .before .before .before .pre .1 .1 .0, length-take-le (c .before .before .before .before .before .before .before .before .args .n) (c .before .before .before .row-buffer2 .result) v ∙ c .before .before .before .before .before .before .before .before .pre .1 .1 .0)))
 
--- src/lib.rt:206:1
 same-length : tie.Need-same-length
 same-length c = search needs
 
--- src/lib.rt:206:1
 returns : tie.Need-returns
 returns c = search needs
 

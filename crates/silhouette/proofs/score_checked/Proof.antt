@@ -1,75 +1,71 @@
+use Prim.Native.Nat.{_*_, _<_, _≤_, ℕ}
+use mathlib.Core.Path.{_∙_, sym}
+use native.Mathlib.Omega.{arith}
+use lib.ListN.{length}
+use lib.Seq.{length-take-le}
+use lib.Ieee.{ofBits}
 use borrow.Author.Needs.{needs}
+use Rattle.lists.specs.Lists.{numbers}
+use Rattle.silhouette.proofs.Called.{front-length, front-shape, whole-scores, whole-wiped, work-length}
 use Rattle.silhouette.proofs.score_checked.Statement.{statement}
 use Rattle.silhouette.proofs.score_checked.Tie as tie
-use Rattle.silhouette.proofs.score_checked.Reads as reads
-use Rattle.silhouette.proofs.score_checked.Lts as lts
-use Rattle.lists.proofs.fill.Reads as fill-reads
-use Rattle.lists.proofs.transpose.Reads as transpose-reads
-use Rattle.silhouette.proofs.score_across.Reads as score-across-reads
 
--- src/lib.rt:230:17
 mul-count : tie.Need-mul-count
 mul-count c = search needs
 
--- src/lib.rt:231:35
 slice-relend-prefix-transpose : tie.Need-slice-relend-prefix-transpose
 slice-relend-prefix-transpose c = search needs
 
--- src/lib.rt:231:35
 slice-aggregate-transpose : tie.Need-slice-aggregate-transpose
-slice-aggregate-transpose c = ?
+slice-aggregate-transpose c = sym (length-take-le (c .before .before .before .before .before .args .n * c .before .before .before .before .before .args .n) (c .before .before .before .before .before .args .floats .now) (omega (arith, c .before .before .before .before .before .pre .0 .5)))
 
--- src/lib.rt:231:5
 transpose-requires : tie.Need-transpose-requires
-transpose-requires c κs = ?
+transpose-requires c κs =
+    let h : c .before .before .before .before .before .args .n * c .before .before .before .before .before .args .n ≤ length (c .before .before .before .before .before .args .floats .now) = omega (arith, c .before .before .before .before .before .pre .0 .5) in
+    (c .before .before .before .before .before .pre .0 .0, c .before .before .before .before .before .pre .0 .1, c .before .before .before .before .before .pre .0 .2, length-take-le (c .before .before .before .before .before .args .n * c .before .before .before .before .before .args .n) (c .before .before .before .before .before .args .floats .now) h)
 
--- src/lib.rt:232:18
 slice-reshare-prefix-score-across : tie.Need-slice-reshare-prefix-score-across
 slice-reshare-prefix-score-across c = search needs
 
--- src/lib.rt:232:18
 slice-aggregate-score-across : tie.Need-slice-aggregate-score-across
-slice-aggregate-score-across c = ?
+slice-aggregate-score-across c = front-length (c .before .before .before .before .before .before .before .before .before .args .pairwise .now) (c .before .before .before .before .before .before .before .before .before .args .n) (c .before .before .before .before .before .before .before .before .before .args .labels .now) (c .before .before .before .before .before .before .before .before .before .args .floats .now) (c .before .before .before .before .before .before .before .before .before .pre .0 .3) (c .before .before .before .before .before .before .before .before .before .pre .0 .5) (c .before .before .before .transpose .ensures)
 
--- src/lib.rt:232:5
 score-across-requires : tie.Need-score-across-requires
-score-across-requires c κs = ?
+score-across-requires c κs =
+    let s = front-shape (c .before .before .before .before .before .before .before .before .before .before .args .pairwise .now) (c .before .before .before .before .before .before .before .before .before .before .args .n) (c .before .before .before .before .before .before .before .before .before .before .args .labels .now) (c .before .before .before .before .before .before .before .before .before .before .args .floats .now) (c .before .before .before .before .before .before .before .before .before .before .pre .0 .3) (c .before .before .before .before .before .before .before .before .before .before .pre .0 .5) (c .before .before .before .before .transpose .ensures) (c .before .before .before .before .before .before .before .before .before .before .pre .0 .1) in
+    let below : (i : ℕ) → i < length (c .before .before .before .before .before .before .before .before .before .before .args .labels .now) → numbers (c .before .before .before .before .before .before .before .before .before .before .args .labels .now) i < c .before .before .before .before .before .before .before .before .before .before .args .n = λ i b. c .before .before .before .before .before .before .before .before .before .before .pre .1 i (omega (arith, c .before .before .before .before .before .before .before .before .before .before .pre .0 .3)) in
+    (s, (below, (sym (c .before .before .before .before .before .before .before .before .before .before .pre .0 .3), c .before .before .before .before .before .before .before .before .before .before .pre .0 .4 ∙ sym (c .before .before .before .before .before .before .before .before .before .before .pre .0 .3))))
 
--- src/lib.rt:233:16
 mul-work : tie.Need-mul-work
 mul-work c = search needs
 
--- src/lib.rt:233:28
 mul-work-2 : tie.Need-mul-work-2
 mul-work-2 c = search needs
 
--- src/lib.rt:233:16
 add-work : tie.Need-add-work
 add-work c = search needs
 
--- src/lib.rt:234:17
 slice-relend-prefix-fill : tie.Need-slice-relend-prefix-fill
 slice-relend-prefix-fill c = search needs
 
--- src/lib.rt:234:17
 slice-aggregate-fill : tie.Need-slice-aggregate-fill
-slice-aggregate-fill c = ?
+slice-aggregate-fill c = work-length (c .before .before .before .before .before .before .before .before .before .before .before .before .before .before .args .pairwise .now) (c .before .before .before .before .before .before .before .before .before .before .before .before .before .before .args .n) (c .before .before .before .before .before .before .before .before .before .before .before .before .before .before .args .labels .now) (c .before .before .before .before .before .before .before .before .before .before .before .before .before .before .args .floats .now) (c .before .before .before .before .before .before .before .before .before .before .before .before .before .before .pre .0 .3) (c .before .before .before .before .before .before .before .before .before .before .before .before .before .before .pre .0 .5) (c .before .before .before .before .before .before .before .before .transpose .ensures)
 
--- src/lib.rt:234:5
 fill-requires : tie.Need-fill-requires
 fill-requires c κs = search needs
 
--- src/lib.rt:218:1
 same-length : tie.Need-same-length
 same-length c = search needs
 
--- src/lib.rt:218:1
 same-length-2 : tie.Need-same-length-2
 same-length-2 c = search needs
 
--- src/lib.rt:218:1
 returns : tie.Need-returns
-returns c = ?
+unfolding ofBits
+returns c = (
+  whole-scores (c .before .before .before .before .before .before .before .before .before .before .before .before .before .before .before .before .before .args .pairwise .now) (c .before .before .before .before .before .before .before .before .before .before .before .before .before .before .before .before .before .args .n) (c .before .before .before .before .before .before .before .before .before .before .before .before .before .before .before .before .before .args .labels .now) (c .before .before .before .before .before .before .before .before .before .before .before .before .before .before .before .before .before .args .floats .now) (c .before .before .before .before .before .before .before .before .before .before .before .before .before .before .before .before .before .pre .0 .3) (c .before .before .before .before .before .before .before .before .before .before .before .before .before .before .before .before .before .pre .0 .5) (c .before .before .before .before .before .before .before .before .before .before .before .transpose .ensures) (c .before .before .before .before .before .before .score-across .ensures),
+  whole-wiped (c .before .before .before .before .before .before .before .before .before .before .before .before .before .before .before .before .before .args .pairwise .now) (c .before .before .before .before .before .before .before .before .before .before .before .before .before .before .before .before .before .args .n) (c .before .before .before .before .before .before .before .before .before .before .before .before .before .before .before .before .before .args .labels .now) (c .before .before .before .before .before .before .before .before .before .before .before .before .before .before .before .before .before .args .floats .now) (c .before .before .before .before .before .before .before .before .before .before .before .before .before .before .before .before .before .pre .0 .3) (c .before .before .before .before .before .before .before .before .before .before .before .before .before .before .before .before .before .pre .0 .5) (c .before .before .before .before .before .before .before .before .before .before .before .transpose .ensures) (c .before .before .fill .ensures),
+)
 
 pub score-checked-spec : {M : Type 1} → statement M
 score-checked-spec =

@@ -5,11 +5,6 @@ use borrow.Author.Needs.{needs}
 use Rattle.silhouette.proofs.score_of.Statement.{statement}
 use Rattle.silhouette.proofs.score_of.Tie as tie
 
-
-
-
-
-
 is-finite-requires : tie.Need-is-finite-requires
 is-finite-requires c κs = search needs
 

@@ -37,9 +37,10 @@ same-length-3 c = search needs
 
 returns : tie.Need-returns
 returns c =
-    let means = rw (c .before .before .before .before .before .before .before .before .before .count-as-f642 .ensures) at (c .before .before .before .before .before .before .before .keep-least .ensures) in
-    (c .before .before .before .before .before .before .before .before .before .before .before .before .before .before .before .take-means .ensures .0 ∙ ap (λ (x : Float). listed (atMembers (numbers (c .before .before .before .before .before .before .before .before .before .before .before .before .before .before .before .before .before .before .before .before .before .before .before .args .labels .now)) (c .before .before .before .before .before .before .before .before .before .before .before .before .before .before .before .before .before .before .before .before .before .before .before .args .l) (λ i. div binary64 (cells (c .before .before .before .before .before .before .before .before .before .before .before .before .before .before .before .before .before .before .before .before .before .before .before .args .sums .now) i) x) (cells (c .before .before .before .before .before .before .before .before .before .before .before .before .before .before .before .before .before .before .before .before .before .before .before .args .own .now))) (length (c .before .before .before .before .before .before .before .before .before .before .before .before .before .before .before .before .before .before .before .before .before .before .before .args .labels .now))) (c .before .before .before .before .before .before .before .before .before .before .before .before .before .before .before .before .before .before .count-as-f64 .ensures),
-    settled-lone (c .before .before .before .before .before .before .before .before .before .before .before .before .before .before .before .before .before .before .before .before .before .before .before .args .labels .now) (c .before .before .before .before .before .before .before .before .before .before .before .before .before .before .before .before .before .before .before .before .before .before .before .args .l) (c .before .before .before .before .before .before .before .before .before .before .before .before .before .before .before .before .before .before .before .before .before .before .before .args .count) (c .before .before .before .before .before .before .before .before .before .before .before .before .before .before .before .before .before .before .before .before .before .before .before .args .sums .now) (c .before .before .before .before .before .before .before .before .before .before .before .before .before .before .before .before .before .before .before .before .before .before .before .args .least .now) (c .before .before .before .before .before .before .before .before .before .before .before .before .before .before .before .take-means .ensures .1) means (c .before .before .before .before .before .before .before .before .before .before .before .before .before .before .before .before .before .before .before .before .before .before .before .pre .1) (c .before .before .before .before .if1 .taken) (c .before .before .mark-members .ensures))
+    let means = rw (c .before .before .before .before .before .before .before .before .before .count-as-f642 .ensures) at (c .before .before .before .before .before .before .before .keep-least .ensures) in (
+      c .before .before .before .before .before .before .before .before .before .before .before .before .before .before .before .take-means .ensures .0 ∙ ap (λ (x : Float). listed (atMembers (numbers (c .before .before .before .before .before .before .before .before .before .before .before .before .before .before .before .before .before .before .before .before .before .before .before .args .labels .now)) (c .before .before .before .before .before .before .before .before .before .before .before .before .before .before .before .before .before .before .before .before .before .before .before .args .l) (λ i. div binary64 (cells (c .before .before .before .before .before .before .before .before .before .before .before .before .before .before .before .before .before .before .before .before .before .before .before .args .sums .now) i) x) (cells (c .before .before .before .before .before .before .before .before .before .before .before .before .before .before .before .before .before .before .before .before .before .before .before .args .own .now))) (length (c .before .before .before .before .before .before .before .before .before .before .before .before .before .before .before .before .before .before .before .before .before .before .before .args .labels .now))) (c .before .before .before .before .before .before .before .before .before .before .before .before .before .before .before .before .before .before .count-as-f64 .ensures),
+      settled-lone (c .before .before .before .before .before .before .before .before .before .before .before .before .before .before .before .before .before .before .before .before .before .before .before .args .labels .now) (c .before .before .before .before .before .before .before .before .before .before .before .before .before .before .before .before .before .before .before .before .before .before .before .args .l) (c .before .before .before .before .before .before .before .before .before .before .before .before .before .before .before .before .before .before .before .before .before .before .before .args .count) (c .before .before .before .before .before .before .before .before .before .before .before .before .before .before .before .before .before .before .before .before .before .before .before .args .sums .now) (c .before .before .before .before .before .before .before .before .before .before .before .before .before .before .before .before .before .before .before .before .before .before .before .args .least .now) (c .before .before .before .before .before .before .before .before .before .before .before .before .before .before .before .take-means .ensures .1) means (c .before .before .before .before .before .before .before .before .before .before .before .before .before .before .before .before .before .before .before .before .before .before .before .pre .1) (c .before .before .before .before .if1 .taken) (c .before .before .mark-members .ensures),
+    )
 
 same-length-4 : tie.Need-same-length-4
 same-length-4 c = search needs
@@ -52,9 +53,10 @@ same-length-6 c = search needs
 
 returns-2 : tie.Need-returns-2
 returns-2 c =
-    let means = rw (c .before .before .before .before .before .count-as-f642 .ensures) at (c .before .before .before .keep-least .ensures) in
-    (c .before .before .before .before .before .before .before .before .before .before .before .take-means .ensures .0 ∙ ap (λ (x : Float). listed (atMembers (numbers (c .before .before .before .before .before .before .before .before .before .before .before .before .before .before .before .before .before .before .before .args .labels .now)) (c .before .before .before .before .before .before .before .before .before .before .before .before .before .before .before .before .before .before .before .args .l) (λ i. div binary64 (cells (c .before .before .before .before .before .before .before .before .before .before .before .before .before .before .before .before .before .before .before .args .sums .now) i) x) (cells (c .before .before .before .before .before .before .before .before .before .before .before .before .before .before .before .before .before .before .before .args .own .now))) (length (c .before .before .before .before .before .before .before .before .before .before .before .before .before .before .before .before .before .before .before .args .labels .now))) (c .before .before .before .before .before .before .before .before .before .before .before .before .before .before .count-as-f64 .ensures),
-    settled-more (c .before .before .before .before .before .before .before .before .before .before .before .before .before .before .before .before .before .before .before .args .labels .now) (c .before .before .before .before .before .before .before .before .before .before .before .before .before .before .before .before .before .before .before .args .l) (c .before .before .before .before .before .before .before .before .before .before .before .before .before .before .before .before .before .before .before .args .count) (c .before .before .before .before .before .before .before .before .before .before .before .before .before .before .before .before .before .before .before .args .sums .now) (c .before .before .before .before .before .before .before .before .before .before .before .before .before .before .before .before .before .before .before .args .least .now) (c .before .before .before .before .before .before .before .before .before .before .before .take-means .ensures .1) means (c .before .before .before .before .before .before .before .before .before .before .before .before .before .before .before .before .before .before .before .pre .1) (c .if1 .left))
+    let means = rw (c .before .before .before .before .before .count-as-f642 .ensures) at (c .before .before .before .keep-least .ensures) in (
+      c .before .before .before .before .before .before .before .before .before .before .before .take-means .ensures .0 ∙ ap (λ (x : Float). listed (atMembers (numbers (c .before .before .before .before .before .before .before .before .before .before .before .before .before .before .before .before .before .before .before .args .labels .now)) (c .before .before .before .before .before .before .before .before .before .before .before .before .before .before .before .before .before .before .before .args .l) (λ i. div binary64 (cells (c .before .before .before .before .before .before .before .before .before .before .before .before .before .before .before .before .before .before .before .args .sums .now) i) x) (cells (c .before .before .before .before .before .before .before .before .before .before .before .before .before .before .before .before .before .before .before .args .own .now))) (length (c .before .before .before .before .before .before .before .before .before .before .before .before .before .before .before .before .before .before .before .args .labels .now))) (c .before .before .before .before .before .before .before .before .before .before .before .before .before .before .count-as-f64 .ensures),
+      settled-more (c .before .before .before .before .before .before .before .before .before .before .before .before .before .before .before .before .before .before .before .args .labels .now) (c .before .before .before .before .before .before .before .before .before .before .before .before .before .before .before .before .before .before .before .args .l) (c .before .before .before .before .before .before .before .before .before .before .before .before .before .before .before .before .before .before .before .args .count) (c .before .before .before .before .before .before .before .before .before .before .before .before .before .before .before .before .before .before .before .args .sums .now) (c .before .before .before .before .before .before .before .before .before .before .before .before .before .before .before .before .before .before .before .args .least .now) (c .before .before .before .before .before .before .before .before .before .before .before .take-means .ensures .1) means (c .before .before .before .before .before .before .before .before .before .before .before .before .before .before .before .before .before .before .before .pre .1) (c .if1 .left),
+    )
 
 pub settle-spec : {M : Type 1} → statement M
 settle-spec =

@@ -66,10 +66,14 @@ loop-less-2 c = search needs
 loop-again-2 : tie.Need-loop-again-2 Inv-loop μ-loop
 loop-again-2 c =
     let s = c .before .before .before .before .loop .inv .4 in
-    let w = c .before .before .before .before .loop .inv .5 in
-    (search needs, search needs, simp length-set (search needs), simp length-set (search needs),
-    writes-one _ _ _ s (c .before .before .before .before .before .no-number .ensures ∙ rw (eq-eqb _ _ (c .before .if1 .left))),
-    writes-one _ _ _ w (ap (λ (x : Float). div binary64 x (c .before .before .before .before .before .before .before .before .before .args .others)) (writes-next nan _ _ _ s) ∙ rw (eq-eqb _ _ (c .before .if1 .left))))
+    let w = c .before .before .before .before .loop .inv .5 in (
+      search needs,
+      search needs,
+      simp length-set (search needs),
+      simp length-set (search needs),
+      writes-one _ _ _ s (c .before .before .before .before .before .no-number .ensures ∙ rw (eq-eqb _ _ (c .before .if1 .left))),
+      writes-one _ _ _ w (ap (λ (x : Float). div binary64 x (c .before .before .before .before .before .before .before .before .before .args .others)) (writes-next nan _ _ _ s) ∙ rw (eq-eqb _ _ (c .before .if1 .left))),
+    )
 
 same-length : tie.Need-same-length Inv-loop μ-loop
 same-length c = search needs
