@@ -8,7 +8,7 @@ use native.Mathlib.Nat.{eq-or-lt-of-le, ne-of-lt}
 use native.Mathlib.Omega.{arith}
 use native.Mathlib.Decide.{ℕ-discrete}
 use lib.ListN.{length, getD, set, drop, replicate, length-set, length-replicate}
-use lib.Seq.{getD-set-same, getD-set-other, ext-getD, drop-cons, set-at}
+use lib.Seq.{getD-set-same, getD-set-other, set-getD, ext-getD, drop-cons, set-at}
 use Rattle.lists.specs.Lists.{listed}
 
 module _ {A : Type 0} where
@@ -107,6 +107,10 @@ module _ {A : Type 0} where
   -- one more store, of a value that equals f i
   pub writes-one : (f : ℕ → A) (i : ℕ) {xs : List A} {v : A} (d : List A) → xs ≡ writes f i d → v ≡ f i → set xs i v ≡ writes f (i + 1) d
   writes-one f i {xs} d e h = ap (set xs i) h ∙ writes-more f i d e
+
+  -- no store, where f has what stands there
+  pub writes-keep : (z : A) (f : ℕ → A) (i : ℕ) {xs : List A} (d : List A) → xs ≡ writes f i d → f i ≡ getD d i z → xs ≡ writes f (i + 1) d
+  writes-keep z f i {xs} d e h = sym (set-getD xs i z) ∙ writes-one f i d e (writes-next z f i d e ∙ sym h)
 
   listed-snoc : (f : ℕ → A) (n : ℕ) → listed f (suc n) ≡ listed f n ++ (f n ∷ [])
   unfolding listed

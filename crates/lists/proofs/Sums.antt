@@ -54,3 +54,17 @@ pub count-le : (p : ℕ → Bool) (n : ℕ) → countIf p n ≤ n
 unfolding foldIf
 count-le p zero = omega arith
 count-le p (suc n) = cond-le (p n) (countIf p n) n (count-le p n)
+
+-- tests and steps that agree below n
+pub fold-same : {A : Type 0} (p q : ℕ → Bool) (g h : A → ℕ → A) (a : A) (n : ℕ) → ((k : ℕ) → k < n → p k ≡ q k) → ((x : A) (k : ℕ) → k < n → g x k ≡ h x k)
+    → foldIf p g a n ≡ foldIf q h a n
+unfolding foldIf
+fold-same p q g h a zero e s = refl
+fold-same p q g h a (suc n) e s =
+    rw (e n (omega arith), fold-same p q g h a n (λ k l. e k (omega arith)) (λ x k l. s x k (omega arith)), s (foldIf q h a n) n (omega arith))
+
+-- no place below n counts
+pub fold-none : {A : Type 0} (p : ℕ → Bool) (g : A → ℕ → A) (a : A) (n : ℕ) → ((k : ℕ) → k < n → p k ≡ false) → foldIf p g a n ≡ a
+unfolding foldIf
+fold-none p g a zero e = refl
+fold-none p g a (suc n) e = rw (e n (omega arith)) (fold-none p g a n (λ k l. e k (omega arith)))

@@ -1,9 +1,9 @@
 // Filling, copying, searching and reading of lent lists: the inner forms that the crates above share.
 // Their callers know the lengths, so they ask for them.
 ghost use mathlib.Core.Path.{_≡_};
-ghost use Prim.Native.Nat.{_≤_, _<_, _*_};
+ghost use Prim.Native.Nat.{ℕ, _≤_, _<_, _*_};
 ghost use lib.ListN.{length, replicate};
-ghost use Rattle.lists.specs.Lists.{row, firstFrom};
+ghost use Rattle.lists.specs.Lists.{row, cellAt, listed, grid, firstFrom};
 
 // x in each place.
 pub fn fill(xs: &mut [f64], x: f64)
@@ -43,6 +43,28 @@ pub fn row_of(p: &[f64], n: usize, i: usize) -> &[f64]
     let at = i * n;
     let end = at + n;
     &p[at..end]
+}
+
+// Column i of a matrix of n rows of n cells, from row 0 on.
+fn copy_column(from: &[f64], n: usize, i: usize, out: &mut [f64])
+    requires { ⌜ (n ≤ 256) × (length (now from) ≡ n * n) × (i < n) × (length (now out) ≡ n) ⌝ }
+    ensures { λ _. ⌜ now (out .exit) ≡ listed (λ j. cellAt (now (from .entry)) n j i) n ⌝ }
+{
+    for j in 0..n {
+        out[j] = from[j * n + i];
+    }
+}
+
+// The matrix whose rows are the columns of the first, which has n rows of n cells. Inner form.
+pub fn transpose(from: &[f64], n: usize, out: &mut [f64])
+    requires { ⌜ (0 < n) × (n ≤ 256) × (length (now from) ≡ n * n) × (length (now out) ≡ n * n) ⌝ }
+    ensures { λ _. ⌜ now (out .exit) ≡ grid (λ i j. cellAt (now (from .entry)) n j i) n ⌝ }
+{
+    for i in 0..n {
+        let at = i * n;
+        let end = at + n;
+        copy_column(from, n, i, &mut out[at..end]);
+    }
 }
 
 // The first place of a number that is not below the limit, and the list's length where there is none.

@@ -1,0 +1,80 @@
+-- The public call: what an accepted call knows, and what the working list holds.
+use Prim.Native.Nat.{ℕ, _+_, _*_, _<_, _≤_}
+use mathlib.Core.Path.{_≡_, refl, sym, _∙_, ap, subst}
+use mathlib.Core.Bool.{Bool, true, false, _&&_}
+use mathlib.Core.List.{List, _++_}
+use native.Mathlib.Omega.{arith}
+use borrow.Author.Tests.{eq-eqb, eqb-true, leb-true}
+use lib.Dec.{T, eqb, leb}
+use lib.ListN.{length, take, drop, replicate, length-append, length-drop}
+use lib.Seq.{length-take-le, take-at, drop-at}
+use lib.Ieee.{Float, nan}
+use Rattle.lists.specs.Lists.{listed, numbers, cellAt, flat, grid, firstFrom}
+use Rattle.lists.specs.Sums.{zero64}
+use Rattle.lists.proofs.Listed.{listed-same, listed-length}
+use Rattle.lists.proofs.First.{from-none}
+use Rattle.lists.proofs.Grid.{in-grid}
+use Rattle.lists.proofs.Parts.{drop-behind}
+use Rattle.refusals.specs.Table.{numberOf, refusalOf, refusal, Refusal, workDoubles, wiped}
+use Rattle.refusals.specs.declared.Answer.{Answer}
+use Rattle.refusals.proofs.Laws.{accepted}
+use Rattle.silhouette.specs.Scores.{silhouette}
+use Rattle.silhouette.specs.Leaf.{scoreAt, listsFit}
+use Rattle.silhouette.specs.Groups.{distance, Shape, scoresAcross}
+use Rattle.silhouette.proofs.Least.{score-same}
+
+-- The pair distances transposed, at the front of the working list.
+module _ (pairs : List Float) (n : ℕ) (labels : List ℕ) (floats : List Float) (named : length labels ≡ n) (room : workDoubles n ≤ length floats)
+    {turned : List Float} (is : turned ≡ grid (λ i j. cellAt pairs n j i) n) where
+  abbrev whole : List Float
+  whole = turned ++ drop (n * n) floats
+
+  turned-length : length turned ≡ n * n
+  turned-length = listed-length (flat (λ i j. cellAt pairs n j i) n) (n * n) is
+
+  front : take (n * n) whole ≡ turned
+  front = take-at turned (drop (n * n) floats) (n * n) turned-length
+
+  pub front-length : n * n ≡ length (take (n * n) whole)
+  front-length = sym (ap length front ∙ turned-length)
+
+  pub front-shape : n ≤ 256 → Shape (take (n * n) whole) labels
+  front-shape h = record { few = omega arith; square = rw named (sym front-length) }
+
+  pub whole-length : length whole ≡ length floats
+  whole-length = simp (length-append, length-drop) (omega (arith, turned-length))
+
+  pub work-length : workDoubles n ≡ length (take (workDoubles n) whole)
+  work-length = sym (length-take-le (workDoubles n) whole (rw whole-length room))
+
+  -- zeros over the front
+  pub whole-wiped : {zeros : List Float} → zeros ≡ replicate (length (take (workDoubles n) whole)) zero64 → zeros ++ drop (workDoubles n) whole ≡ wiped n floats
+  whole-wiped e =
+      let behind : drop (workDoubles n) whole ≡ drop (workDoubles n) floats =
+      drop-behind (n * n) (workDoubles n) whole floats (omega arith) (drop-at turned (drop (n * n) floats) (n * n) turned-length) in
+      rw (e, ← work-length, behind)
+
+  pub whole-scores : {out : List Float} → out ≡ scoresAcross (take (n * n) whole) labels → out ≡ listed (scoreAt pairs n labels) n
+  unfolding scoreAt
+  whole-scores e =
+      (rw (front, named) at e)
+      ∙ listed-same nan (λ i. silhouette (distance turned n i) (numbers labels) n i) (λ i. silhouette (cellAt pairs n i) (numbers labels) n i) n
+      (λ i q. score-same (distance turned n i) (cellAt pairs n i) (numbers labels) n i (λ j b. in-grid (λ r s. cellAt pairs n s r) n j i nan is b q))
+
+both : (a b : Bool) → a && b ≡ true → (a ≡ true) × (b ≡ true)
+both true b h = (refl, h)
+both false b h = absurd (subst T (sym h) tt)
+
+-- what holds of the lists of a call that is not refused
+pub ready : (a : Answer) (pairs : List Float) (n : ℕ) (labels : List ℕ) (scores floats : List Float)
+    → refusalOf a ≡ refusal (length pairs) n n (listsFit n (length labels) (length scores) (length floats)) (firstFrom n labels) (length labels) → numberOf a ≡ 0
+    → ((0 < n) × (n ≤ 256) × (length pairs ≡ n * n) × (length labels ≡ n) × (length scores ≡ n) × (workDoubles n ≤ length floats)) × ((i : ℕ) → i < n → numbers labels i < n)
+ready a pairs n labels scores floats is h =
+    let q = accepted (length pairs) n n (listsFit n (length labels) (length scores) (length floats)) (firstFrom n labels) (length labels)
+    (ap (λ (r : Refusal). eqb (r .number) 0) (sym is) ∙ eq-eqb (numberOf a) 0 h) in
+    let f = both (eqb (length labels) n) (eqb (length scores) n && leb (workDoubles n) (length floats)) (q .fitting) in
+    let g = both (eqb (length scores) n) (leb (workDoubles n) (length floats)) (f .1) in
+    let named = eqb-true (length labels) n (f .0) in (
+      (omega (arith, q .two), q .few, q .square, named, eqb-true (length scores) n (g .0), leb-true (workDoubles n) (length floats) (g .1)),
+      λ i b. from-none n labels (q .in-range) i (omega arith),
+    )
