@@ -144,26 +144,34 @@ fn squared_item(area: &[f64], m: usize, i: usize, sums: &mut [f64])
     squared_row(lists::row_of(area, m, i), &area[second..third], sums);
 }
 
-// Row i of the squared pair distances: worked out aside, since the list is read meanwhile.
-fn square_row(area: &mut [f64], m: usize, i: usize)
-    requires { ⌜ Turned (now area) m × (i < m) ⌝ }
+// Row i of the squared pair distances: worked out in `sums`, since the list is read meanwhile.
+fn square_row(area: &mut [f64], m: usize, i: usize, sums: &mut [f64])
+    requires { ⌜ Turned (now area) m × (i < m) × (length (now sums) ≡ m) ⌝ }
     ensures { λ _. ⌜ now (area .exit) ≡ put (2 * (m * m) + i * m) m (now (area .entry)) (listed (squaredAt (pointsAt (now (area .entry)) m) m i) m) ⌝ }
 {
-    let mut sums = lists::row_buffer();
-    squared_item(area, m, i, &mut sums[..m]);
+    squared_item(area, m, i, sums);
     let at = 2 * (m * m) + i * m;
     let end = at + m;
-    lists::copy(&sums[..m], &mut area[at..end]);
+    lists::copy(sums, &mut area[at..end]);
 }
 
-// The squared pair distances.
+// The squared pair distances, row by row.
+fn square_rows(area: &mut [f64], m: usize, sums: &mut [f64])
+    requires { ⌜ Turned (now area) m × (length (now sums) ≡ m) ⌝ }
+    ensures { λ _. ⌜ now (area .exit) ≡ put (2 * (m * m)) (m * m) (now (area .entry)) (grid (squaredAt (pointsAt (now (area .entry)) m) m) m) ⌝ }
+{
+    for i in 0..m {
+        square_row(area, m, i, sums);
+    }
+}
+
+// The same, with a row to work in.
 fn square_all(area: &mut [f64], m: usize)
     requires { ⌜ Turned (now area) m ⌝ }
     ensures { λ _. ⌜ now (area .exit) ≡ put (2 * (m * m)) (m * m) (now (area .entry)) (grid (squaredAt (pointsAt (now (area .entry)) m) m) m) ⌝ }
 {
-    for i in 0..m {
-        square_row(area, m, i);
-    }
+    let mut sums = lists::row_buffer();
+    square_rows(area, m, &mut sums[..m]);
 }
 
 // Row i of the pair distances: the cells before column i are those of column i in the rows above, the others are roots.
