@@ -1,16 +1,16 @@
 // Distances of a book of correlations, on plain lent lists and through a list of row numbers. A book that is read
 // through row numbers is never copied: each cell is read where it lies.
 ghost use mathlib.Core.Path.{_≡_};
-ghost use Prim.Native.Nat.{_<_, _≤_, _+_, _*_};
+ghost use mathlib.Core.Bool.{true};
+ghost use Prim.Native.Nat.{_<_, _≤_, _+_, _*_, min};
+ghost use lib.Dec.{eqb};
 ghost use lib.ListN.{length};
-ghost use Rattle.lists.specs.Lists.{listed, grid};
-ghost use Rattle.lists.specs.Sums.{sumTo, squareFrom};
-ghost use Rattle.refusals.specs.Table.{refusalOf};
+ghost use Rattle.lists.specs.Lists.{cells, listed, grid, firstFrom};
+ghost use Rattle.refusals.specs.Table.{refusalOf, refusal};
 ghost use Rattle.distance.specs.Distance as spec;
 ghost use Rattle.distance.specs.Distance.{through, distAt, squaredAt, Readable};
 ghost use Rattle.distance.specs.Leaves as leaves;
 ghost use Rattle.distance.specs.Leaves.{measuredOf};
-
 use refusals::Answer;
 
 // A squared distance, or why there is none.
@@ -48,4 +48,190 @@ pub fn cell_at(book: &[f64], n: usize, rows: &[usize], i: usize, j: usize) -> f6
     let s = rows[j];
     let at = r * n + s;
     book[at]
+}
+
+// Row i of the book that the rows make, as distances. Inner form.
+fn distance_row(book: &[f64], n: usize, rows: &[usize], i: usize, out: &mut [f64])
+    requires { ⌜ Readable (now book) n (now rows) × (i < length (now rows)) × (length (now out) ≡ length (now rows)) ⌝ }
+    ensures { λ _. ⌜ now (out .exit) ≡ listed (distAt (now (book .entry)) n (now (rows .entry)) i) (length (now (rows .entry))) ⌝ }
+{
+    let m = rows.len();
+    for j in 0..m {
+        out[j] = distance(cell_at(book, n, rows, i, j));
+    }
+}
+
+// The distances of the book that the rows make, row by row. Inner form.
+pub fn fill_distances(book: &[f64], n: usize, rows: &[usize], out: &mut [f64])
+    requires { ⌜ Readable (now book) n (now rows) × (0 < length (now rows)) × (length (now out) ≡ length (now rows) * length (now rows)) ⌝ }
+    ensures { λ _. ⌜ now (out .exit) ≡ grid (distAt (now (book .entry)) n (now (rows .entry))) (length (now (rows .entry))) ⌝ }
+{
+    let m = rows.len();
+    for i in 0..m {
+        let at = i * m;
+        let end = at + m;
+        distance_row(book, n, rows, i, &mut out[at..end]);
+    }
+}
+
+// Row i of the book that the rows make. Inner form.
+fn cell_row(book: &[f64], n: usize, rows: &[usize], i: usize, out: &mut [f64])
+    requires { ⌜ Readable (now book) n (now rows) × (i < length (now rows)) × (length (now out) ≡ length (now rows)) ⌝ }
+    ensures { λ _. ⌜ now (out .exit) ≡ listed (through (now (book .entry)) n (now (rows .entry)) i) (length (now (rows .entry))) ⌝ }
+{
+    let m = rows.len();
+    for j in 0..m {
+        out[j] = cell_at(book, n, rows, i, j);
+    }
+}
+
+// The cells of the book that the rows make, row by row: the ordered matrix, where the rows are the order. Inner form.
+pub fn fill_cells(book: &[f64], n: usize, rows: &[usize], out: &mut [f64])
+    requires { ⌜ Readable (now book) n (now rows) × (0 < length (now rows)) × (length (now out) ≡ length (now rows) * length (now rows)) ⌝ }
+    ensures { λ _. ⌜ now (out .exit) ≡ grid (through (now (book .entry)) n (now (rows .entry))) (length (now (rows .entry))) ⌝ }
+{
+    let m = rows.len();
+    for i in 0..m {
+        let at = i * m;
+        let end = at + m;
+        cell_row(book, n, rows, i, &mut out[at..end]);
+    }
+}
+
+// The distance of each cell. Inner form.
+fn distance_each(book: &[f64], out: &mut [f64])
+    requires { ⌜ length (now out) ≡ length (now book) ⌝ }
+    ensures { λ _. ⌜ now (out .exit) ≡ listed (λ t. spec.distanceOf (cells (now (book .entry)) t)) (length (now (book .entry))) ⌝ }
+{
+    let n = book.len();
+    for t in 0..n {
+        out[t] = distance(book[t]);
+    }
+}
+
+// The distances of a book of n names, row by row in `out`; a refusal leaves `out` as it was.
+pub fn corr_to_distance(book: &[f64], n: usize, out: &mut [f64]) -> Answer
+    ensures { λ r. ⌜ record { answer = refusalOf r; out = now (out .exit) } ≡ leaves.corrToDistance (now (book .entry)) n (now (out .entry)) ⌝ }
+{
+    let fits = refusals::is_square(out.len(), n);
+    let answer = refusals::check(book.len(), n, n, fits, 0, 0);
+    if refusals::number_of(answer) != 0 {
+        return answer;
+    }
+    distance_each(book, out);
+    answer
+}
+
+// The same of the book that the rows make.
+pub fn corr_to_distance_through(book: &[f64], n: usize, rows: &[usize], out: &mut [f64]) -> Answer
+    ensures { λ r. ⌜ record { answer = refusalOf r; out = now (out .exit) } ≡ leaves.corrToDistanceThrough (now (book .entry)) n (now (rows .entry)) (now (out .entry)) ⌝ }
+{
+    let answer = check_rows(book.len(), n, rows, out.len());
+    if refusals::number_of(answer) != 0 {
+        return answer;
+    }
+    fill_distances(book, n, rows, out);
+    answer
+}
+
+// The cells of the book that the rows make.
+pub fn submatrix(book: &[f64], n: usize, rows: &[usize], out: &mut [f64]) -> Answer
+    ensures { λ r. ⌜ record { answer = refusalOf r; out = now (out .exit) } ≡ leaves.submatrixOf (now (book .entry)) n (now (rows .entry)) (now (out .entry)) ⌝ }
+{
+    let answer = check_rows(book.len(), n, rows, out.len());
+    if refusals::number_of(answer) != 0 {
+        return answer;
+    }
+    fill_cells(book, n, rows, out);
+    answer
+}
+
+// The first row of the table that applies to a book read through the rows, and an output of `out` cells.
+fn check_rows(cells: usize, n: usize, rows: &[usize], out: usize) -> Answer
+    ensures { λ r. ⌜ refusalOf r ≡ refusal cells n (length (now (rows .entry))) (eqb out (length (now (rows .entry)) * length (now (rows .entry)))) (firstFrom n (now (rows .entry))) (length (now (rows .entry))) ⌝ }
+{
+    let m = rows.len();
+    let fits = refusals::is_square(out, m);
+    let bad = lists::first_from(n, rows);
+    refusals::check(cells, n, m, fits, bad, m)
+}
+
+// The lesser of two lengths.
+fn shorter(a: usize, b: usize) -> usize
+    ensures { λ r. ⌜ r ≡ min a b ⌝ }
+{
+    if a < b { a } else { b }
+}
+
+// The squares of the differences, in order, of the columns that both lists have.
+pub fn squared_distance(a: &[f64], b: &[f64]) -> f64
+    ensures { λ r. ⌜ r ≡ leaves.squaredDistance (now (a .entry)) (now (b .entry)) ⌝ }
+{
+    let n = shorter(a.len(), b.len());
+    let mut sum = 0.0;
+    for c in 0..n {
+        let d = a[c] - b[c];
+        sum = sum + d * d;
+    }
+    sum
+}
+
+// The squared distance of items i and j of the book that the rows make. Inner form.
+fn squared_between(book: &[f64], n: usize, rows: &[usize], i: usize, j: usize) -> f64
+    requires { ⌜ Readable (now book) n (now rows) × (i < length (now rows)) × (j < length (now rows)) ⌝ }
+    ensures { λ r. ⌜ r ≡ squaredAt (distAt (now (book .entry)) n (now (rows .entry))) (length (now (rows .entry))) i j ⌝ }
+{
+    let m = rows.len();
+    let mut sum = 0.0;
+    for c in 0..m {
+        let d = distance(cell_at(book, n, rows, i, c)) - distance(cell_at(book, n, rows, j, c));
+        sum = sum + d * d;
+    }
+    sum
+}
+
+// The first bad number: a row number, then i, then j.
+fn first_bad(bad: usize, m: usize, i: usize, j: usize) -> usize
+    requires { ⌜ m ≤ 256 ⌝ }
+    ensures { λ r. ⌜ r ≡ leaves.firstBad bad m i j ⌝ }
+{
+    if bad < m {
+        return bad;
+    }
+    if m <= i {
+        return m;
+    }
+    if m <= j {
+        return m + 1;
+    }
+    m + 2
+}
+
+// The first row of the table that applies to a book read through the rows, and two of its items.
+fn check_items(cells: usize, n: usize, rows: &[usize], i: usize, j: usize) -> Answer
+    ensures { λ r. ⌜ refusalOf r ≡ refusal cells n (length (now (rows .entry))) true (leaves.firstBad (firstFrom n (now (rows .entry))) (length (now (rows .entry))) i j) (length (now (rows .entry)) + 2) ⌝ }
+{
+    let m = rows.len();
+    if m > 256 {
+        return refusals::check(cells, n, m, true, 0, 0);
+    }
+    let bad = first_bad(lists::first_from(n, rows), m, i, j);
+    refusals::check(cells, n, m, true, bad, m + 2)
+}
+
+// The squared distance of items i and j of the book that the rows make, or why there is none.
+pub fn squared_distance_through(
+    book: &[f64],
+    n: usize,
+    rows: &[usize],
+    i: usize,
+    j: usize,
+) -> Squared
+    ensures { λ r. ⌜ measuredOf r ≡ leaves.squaredDistanceThrough (now (book .entry)) n (now (rows .entry)) i j ⌝ }
+{
+    let answer = check_items(book.len(), n, rows, i, j);
+    if refusals::number_of(answer) != 0 {
+        return Squared::Refused(answer);
+    }
+    Squared::Value(squared_between(book, n, rows, i, j))
 }

@@ -12,6 +12,7 @@ use lib.ListN.{length, drop}
 use lib.Ieee.{Float}
 use Rattle.refusals.specs.Table.{numberOf, refusalOf, Refusal, none, refused, when, unless, refusal, after, Filled, filled, Worked, worked, wiped}
 use Rattle.refusals.specs.declared.Answer.{Answer}
+use Rattle.refusals.specs.declared.Answer.the-variants.{Done, InvalidCorrelationMatrix, TooLarge, CellCount, ListLength, OutOfRange}
 
 impossible : {A : Type 0} → false ≡ true → A
 impossible h = absurd (subst T (sym h) tt)
@@ -65,13 +66,15 @@ or-true : (b : Bool) → b || true ≡ true
 or-true true = refl
 or-true false = refl
 
--- whether the other lists fit is asked of at most 256 rows alone
-pub fits-asked : (cells n m : ℕ) (f g : Bool) (bad count : ℕ) → (m ≤ 256 → f ≡ g) → refusal cells n m f bad count ≡ refusal cells n m g bad count
+-- over 256 rows are refused whatever else is asked
+pub many-rows : (cells n m : ℕ) (f g : Bool) (bad bad′ count count′ : ℕ) → 256 < m → refusal cells n m f bad count ≡ refusal cells n m g bad′ count′
 unfolding refusal when unless
+many-rows cells n m f g bad bad′ count count′ h = rw (lt-ltb 256 m h, or-true (ltb 256 n))
+
+-- so whether the other lists fit is asked of at most 256 rows alone
+pub fits-asked : (cells n m : ℕ) (f g : Bool) (bad count : ℕ) → (m ≤ 256 → f ≡ g) → refusal cells n m f bad count ≡ refusal cells n m g bad count
 fits-asked cells n m f g bad count e =
-    by-cases (decLt 256 m)
-    (λ h. rw (lt-ltb 256 m h, or-true (ltb 256 n)))
-    (λ h. rw (e (omega arith)))
+    by-cases (decLt 256 m) (λ h. many-rows cells n m f g bad bad count count h) (λ h. ap (λ (b : Bool). refusal cells n m b bad count) (e (omega arith)))
 
 -- the record of a call with one output list, refused and not
 module _ (a : Answer) (q : Refusal) (is : refusalOf a ≡ q) (new old : List Float) where
@@ -87,3 +90,16 @@ module _ (a : Answer) (q : Refusal) (is : refusalOf a ≡ q) (new old : List Flo
   pub was-worked : (m : ℕ) (floats : List Float) {out left : List Float} → numberOf a ≡ 0 → out ≡ new → left ≡ wiped m floats
       → record { answer = refusalOf a; out = out; floats = left } ≡ worked q m new old floats
   was-worked m floats h e l = rw (← is, eq-eqb (numberOf a) 0 h, e, l)
+
+-- a call whose number is 0 is not refused
+pub passed : (a : Answer) {q : Refusal} → refusalOf a ≡ q → numberOf a ≡ 0 → eqb (q .number) 0 ≡ true
+passed a is h = rw (← is) (eq-eqb (numberOf a) 0 h)
+
+-- and is given no place
+pub done-none : (a : Answer) → numberOf a ≡ 0 → refusalOf a ≡ none
+done-none Done h = refl
+done-none InvalidCorrelationMatrix h = absurd (omega arith)
+done-none TooLarge h = absurd (omega arith)
+done-none CellCount h = absurd (omega arith)
+done-none ListLength h = absurd (omega arith)
+done-none (OutOfRange k) h = absurd (omega arith)

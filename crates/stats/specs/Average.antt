@@ -22,9 +22,13 @@ constant f n = finite (f 0) && allTo (λ j. sameBits (f j) (f 0)) n
 unfoldable pub meanOf : (ℕ → Float) → ℕ → Float
 meanOf f n = cond (constant f n) (f 0) (div binary64 (sumTo f n) (counted n))
 
--- the variance of more than ddof values: the squares of the differences from the mean, summed, over n - ddof
+-- the squares of the differences from m, summed, over n - ddof
+unfoldable pub varianceAbout : Float → (ℕ → Float) → ℕ → ℕ → Float
+varianceAbout m f n ddof = div binary64 (sumTo (λ j. squareFrom m (f j)) n) (counted (n - ddof))
+
+-- the variance of more than ddof values
 unfoldable pub varianceOf : (ℕ → Float) → ℕ → ℕ → Float
-varianceOf f n ddof = div binary64 (sumTo (λ j. squareFrom (meanOf f n) (f j)) n) (counted (n - ddof))
+varianceOf f n ddof = varianceAbout (meanOf f n) f n ddof
 
 -- the deviation of more than ddof values
 abbrev pub deviationOf : (ℕ → Float) → ℕ → ℕ → Float

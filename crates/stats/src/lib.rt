@@ -128,13 +128,21 @@ pub fn mean(values: &[f64]) -> Average
     Average::Value(mean_value(values))
 }
 
+// The squares of the differences from m, summed, over n - ddof, of more than ddof values. Inner form.
+pub fn variance_about(values: &[f64], m: f64, ddof: usize) -> f64
+    requires { ⌜ ddof < length (now values) ⌝ }
+    ensures { λ r. ⌜ r ≡ average.varianceAbout m (cells (now (values .entry))) (length (now (values .entry))) ddof ⌝ }
+{
+    sum_of_squares(values, m) / count_as_f64(values.len() - ddof)
+}
+
 // The variance of more than ddof values. Inner form.
-pub fn variance_value(values: &[f64], ddof: usize) -> f64
+fn variance_value(values: &[f64], ddof: usize) -> f64
     requires { ⌜ ddof < length (now values) ⌝ }
     ensures { λ r. ⌜ r ≡ average.varianceOf (cells (now (values .entry))) (length (now (values .entry))) ddof ⌝ }
 {
     let m = mean_value(values);
-    sum_of_squares(values, m) / count_as_f64(values.len() - ddof)
+    variance_about(values, m, ddof)
 }
 
 // The squared differences from the mean, summed, over n - ddof; none where n is 0 or at most ddof.
