@@ -1,23 +1,26 @@
 -- Laws of the list of four areas: what a step keeps, and what a row more makes.
-use Prim.Native.Nat.{ℕ, zero, suc, _+_, _-_, _*_, _<_, _≤_}
-use mathlib.Core.Path.{_≡_, refl, sym, _∙_, ap}
+use Prim.Native.Nat.{ℕ, _+_, _-_, _*_, _<_, _≤_}
+use mathlib.Core.Path.{_≡_, refl, sym, _∙_, ap, subst}
+use mathlib.Core.Bool.{Bool, true, false, _&&_}
 use mathlib.Core.List.{List, _++_, append-assoc, append-nil}
 use native.Mathlib.Nat.{mul-le-mul-right, suc-mul, div-add-mod'}
 use native.Mathlib.Omega.{arith}
-use lib.ListN.{length, getD, take, drop, replicate, length-append, length-drop, drop-of-length-le}
-use lib.Seq.{take-take, take-at, drop-at, drop-drop, getD-take, length-take-le}
+use lib.ListN.{length, getD, take, drop, length-append, length-drop, drop-of-length-le}
+use lib.Seq.{take-take, take-all, take-at, drop-at, getD-take, length-take-le}
+use lib.Dec.{T, eqb, leb}
+use borrow.Author.Tests.{eqb-true, leb-true}
 use lib.Ieee.{Float, nan}
 use Rattle.sqrt.specs.Root.{root}
 use Rattle.lists.specs.Lists.{listed, cells, cellAt, part, put, row, flat, grid}
 use Rattle.lists.proofs.Listed.{listed-of, listed-same, getD-listed, length-listed, listed-length}
 use Rattle.lists.proofs.Rows.{row-end}
 use Rattle.lists.proofs.Grid.{cell-below, row-cell, row-long, flat-at, grid-same, listed-append, in-grid}
-use Rattle.lists.proofs.Parts.{part-front, part-drop, drop-behind, part-length, put-take, put-length, put-part, getD-part, getD-front}
+use Rattle.lists.proofs.Parts.{part-front, drop-behind, put-take, put-length, put-part, getD-part, getD-front}
 use Rattle.lists.proofs.Areas.{put-next, areaTo, area-more, area-front, area-rows, area-length}
 use Rattle.refusals.specs.Table.{workDoubles, wiped}
 use Rattle.distance.specs.Distance.{squaredAt, pairAt}
-use Rattle.pairwise.specs.Pairs.{pairsArea}
-use Rattle.pairwise.specs.Regions.{pointsAt, Area, Turned, Summed, Rooted}
+use Rattle.pairwise.specs.Pairs.{pairsArea, listsFit}
+use Rattle.pairwise.specs.Regions.{pointsAt, Area, Turned, Summed, Rooted, Fitting}
 use Rattle.pairwise.specs.Columns.{Columns, sumsTo}
 use Rattle.pairwise.proofs.Flip.{pair-flip}
 use Rattle.pairwise.proofs.Steps.{all-columns, squared-same, pair-same}
@@ -25,6 +28,10 @@ use Rattle.pairwise.proofs.Steps.{all-columns, squared-same, pair-same}
 -- lists that agree up to a place agree up to each place before it
 front-less : (k j : ℕ) (a b : List Float) → j ≤ k → take k a ≡ take k b → take j a ≡ take j b
 front-less k j a b h e = sym (take-take j k a h) ∙ ap (λ (x : List Float). take j x) e ∙ take-take j k b h
+
+-- a part that comes back, at its plain length and with what it holds
+pub put-same : (a k j : ℕ) (xs : List Float) {ys zs : List Float} → k ≡ j → ys ≡ zs → put a k xs ys ≡ put a j xs zs
+put-same a k j xs e f = rw (e, f)
 
 -- a step that keeps what lies before the area it writes keeps what the areas before it hold
 module _ (a d : List Float) (m : ℕ) (l : length a ≡ length d) where
@@ -180,6 +187,10 @@ pairs-front a b m e = pairs-same (cellAt a m) (cellAt b m) m (λ i j h l. getD-f
 pub pairs-grid : (x : ℕ → ℕ → Float) (m : ℕ) {a : List Float} → a ≡ grid x m → pairsArea (cellAt a m) m ≡ pairsArea x m
 pairs-grid x m {a} e = pairs-same (cellAt a m) x m (λ i j h l. in-grid x m i j nan e h l)
 
+-- a list that begins with the points
+pub pairs-begin : (p rest : List Float) (m : ℕ) → length p ≡ m * m → pairsArea (cellAt (p ++ rest) m) m ≡ pairsArea (cellAt p m) m
+pairs-begin p rest m l = pairs-front (p ++ rest) p m (take-at p rest (m * m) l ∙ sym (take-all (m * m) p (omega arith)))
+
 -- the four areas when the three steps are done
 module _ (d : List Float) (m : ℕ) (q : Area d m) where
   module _ {a : List Float} (e : a ≡ put (m * m) (m * m) d (grid (λ i j. pointsAt d m j i) m)) where
@@ -236,8 +247,8 @@ module _ (d : List Float) (m : ℕ) (q : Area d m) where
           let c₁ : c ≡ put n (n + n + n) d ((T ++ S) ++ R) = g ∙ rw (r, b₁) (put-next n (n + n) n (3 * n) d (T ++ S) R (omega arith) (omega (arith, q .size)) long) in
           let none : length (drop n d) ≤ n + n + n = simp length-drop (omega (arith, q .size)) in
           let first : take n d ≡ P = listed-of nan (flat x m) n (take n d) (length-take-le n d (omega (arith, q .size))) (λ k l. ap (cells (take n d)) (sym (div-add-mod' k m))) in
-          c₁ ∙ rw (drop-of-length-le (drop n d) none, append-nil ((T ++ S) ++ R), append-assoc T S R, first)
-          ∙ pairs-same x (cellAt d m) m (λ i j h l. getD-take n d (i * m + j) nan (cell-below i j m h l))
+          let whole : put n (n + n + n) d ((T ++ S) ++ R) ≡ P ++ (T ++ (S ++ R)) = rw (drop-of-length-le (drop n d) none, append-nil ((T ++ S) ++ R), append-assoc T S R) (ap (λ (y : List Float). y ++ (T ++ (S ++ R))) first) in
+          c₁ ∙ whole ∙ pairs-same x (cellAt d m) m (λ i j h l. getD-take n d (i * m + j) nan (cell-below i j m h l))
 
 -- the pair distances in a longer list that begins with the four areas, and what lies behind the front part
 module _ (x : ℕ → ℕ → Float) (m : ℕ) (d : List Float) {a : List Float} (e : a ≡ pairsArea x m ++ drop (4 * (m * m)) d) where
@@ -247,8 +258,25 @@ module _ (x : ℕ → ℕ → Float) (m : ℕ) (d : List Float) {a : List Float}
 
   pub fourth-area : part (3 * (m * m)) (m * m) a ≡ grid (pairAt x m) m
   unfolding pairsArea
-  fourth-area = ?
+  fourth-area =
+      let n = m * m in
+      let F = grid x m ++ (grid (λ i j. x j i) m ++ grid (squaredAt x m) m) in
+      let R = grid (pairAt x m) m in
+      let s : a ≡ F ++ (R ++ drop (4 * n) d) = rw e (simp append-assoc) in
+      let long : length F ≡ 3 * n = simp (length-append, length-listed) (omega arith) in
+      rw (s, drop-at F (R ++ drop (4 * n) d) (3 * n) long) (take-at R (drop (4 * n) d) n (length-listed (flat (pairAt x m) m) n))
 
   pub wiped-same : wiped m a ≡ wiped m d
   wiped-same =
       rw (drop-behind (4 * (m * m)) (workDoubles m) a d (omega arith) (rw e (drop-at (pairsArea x m) (drop (4 * (m * m)) d) (4 * (m * m)) pairs-length)))
+
+both : (a b : Bool) → a && b ≡ true → (a ≡ true) × (b ≡ true)
+both true true h = (refl, refl)
+both true false h = absurd (subst T (sym h) tt)
+both false b h = absurd (subst T (sym h) tt)
+
+-- lists that the checks have passed
+pub fitting : (m : ℕ) (out floats : List Float) → 2 ≤ m → m ≤ 256 → listsFit m (length out) (length floats) ≡ true → Fitting m out floats
+fitting m out floats two few h =
+    let b = both (eqb (length out) (m * m)) (leb (workDoubles m) (length floats)) h in
+    record { some = omega arith; few = few; out-length = eqb-true (length out) (m * m) (b .0); room = leb-true (workDoubles m) (length floats) (b .1) }

@@ -5,6 +5,7 @@ use mathlib.Core.List.{List}
 use lib.ListN.{length, take}
 use lib.Ieee.{Float}
 use Rattle.lists.specs.Lists.{cellAt, part, flat, grid, listed}
+use Rattle.refusals.specs.Table.{workDoubles}
 use Rattle.distance.specs.Distance.{squaredAt, pairAt}
 
 -- the columns of the m items, which stand in the first area
@@ -32,3 +33,10 @@ pub record Rooted (area : List Float) (m i : ℕ) : Type 0 where
   pub summed : Summed area m
   pub within : i < m
   pub pairs : part (3 * (m * m)) (i * m) area ≡ listed (flat (pairAt (pointsAt area m) m) m) (i * m)
+
+-- an output of m by m cells, and doubles to work in at a run's length
+pub record Fitting (m : ℕ) (out floats : List Float) : Type 0 where
+  pub some : 0 < m
+  pub few : m ≤ 256
+  pub out-length : length out ≡ m * m
+  pub room : workDoubles m ≤ length floats

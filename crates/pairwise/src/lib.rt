@@ -5,13 +5,14 @@ ghost use Prim.Native.Nat.{ℕ, _<_, _≤_, _+_, _*_};
 ghost use lib.ListN.{length};
 ghost use Rattle.sqrt.specs.Root.{root};
 ghost use Rattle.lists.specs.Lists.{listed, cells, cellAt, part, put, grid};
-ghost use Rattle.refusals.specs.Table.{refusalOf, workDoubles, wiped};
+ghost use Rattle.refusals.specs.Table.{refusalOf, refusal, wiped};
 ghost use Rattle.distance.specs.Distance.{Readable, distAt, squaredAt, pairAt};
 ghost use Rattle.pairwise.specs.Pairs.{pairsArea, listsFit, pairwiseDistances, pairwiseDistancesThrough};
-ghost use Rattle.pairwise.specs.Regions.{pointsAt, Area, Turned, Summed, Rooted};
+ghost use Rattle.pairwise.specs.Regions.{pointsAt, Area, Turned, Summed, Rooted, Fitting};
 ghost use Rattle.pairwise.specs.Columns.{added, addedFour, Columns, sumsTo};
+use refusals::Answer;
 
-// Cells that lie `step` apart, in one piece further on in the same list.
+// Cells that lie `step` apart, copied to one piece further on in the same list. Inner form, as all up to `pairs_in`.
 fn gather(area: &mut [f64], from: usize, step: usize, to: usize, count: usize)
     requires { ⌜ (to + count ≤ length (now area)) × ((j : ℕ) → j < count → from + j * step < to) ⌝ }
     ensures { λ _. ⌜ now (area .exit) ≡ put to count (now (area .entry)) (listed (λ j. cells (now (area .entry)) (from + j * step)) count) ⌝ }
@@ -204,4 +205,115 @@ pub fn pairs_in(area: &mut [f64], m: usize)
     transpose(area, m);
     square_all(area, m);
     root_all(area, m);
+}
+
+// The four areas of the distances of the book that the rows make. Inner form, for the rounds.
+pub fn book_pairs(book: &[f64], n: usize, rows: &[usize], area: &mut [f64])
+    requires { ⌜ Readable (now book) n (now rows) × (0 < length (now rows)) × (length (now area) ≡ 4 * (length (now rows) * length (now rows))) ⌝ }
+    ensures { λ _. ⌜ now (area .exit) ≡ pairsArea (distAt (now (book .entry)) n (now (rows .entry))) (length (now (rows .entry))) ⌝ }
+{
+    let m = rows.len();
+    let second = m * m;
+    distance::fill_distances(book, n, rows, &mut area[..second]);
+    pairs_in(area, m);
+}
+
+// The four areas of n by n points. Inner form.
+fn point_pairs(points: &[f64], n: usize, area: &mut [f64])
+    requires { ⌜ Area (now area) n × (length (now points) ≡ n * n) ⌝ }
+    ensures { λ _. ⌜ now (area .exit) ≡ pairsArea (cellAt (now (points .entry)) n) n ⌝ }
+{
+    let second = n * n;
+    lists::copy(points, &mut area[..second]);
+    pairs_in(area, n);
+}
+
+// The fourth area to `out`; the front part of `floats` is left zero. Inner form.
+fn hand_out(m: usize, out: &mut [f64], floats: &mut [f64])
+    requires { ⌜ Fitting m (now out) (now floats) ⌝ }
+    ensures { λ _. ⌜ (now (out .exit) ≡ part (3 * (m * m)) (m * m) (now (floats .entry))) × (now (floats .exit) ≡ wiped m (now (floats .entry))) ⌝ }
+{
+    let fourth = 3 * (m * m);
+    let end = fourth + m * m;
+    lists::copy(&floats[fourth..end], out);
+    let work = 8 * (m * m) + 256 * m;
+    lists::fill(&mut floats[..work], 0.0);
+}
+
+// The pair distances of n by n points to `out`; the front part of `floats` is left zero. Inner form: the lists fit.
+fn measure_points(points: &[f64], n: usize, out: &mut [f64], floats: &mut [f64])
+    requires { ⌜ Fitting n (now out) (now floats) × (length (now points) ≡ n * n) ⌝ }
+    ensures { λ _. ⌜ (now (out .exit) ≡ grid (pairAt (cellAt (now (points .entry)) n) n) n) × (now (floats .exit) ≡ wiped n (now (floats .entry))) ⌝ }
+{
+    let end = 4 * (n * n);
+    point_pairs(points, n, &mut floats[..end]);
+    hand_out(n, out, floats);
+}
+
+// The same of the distances of the book that the rows make. Inner form.
+fn measure_book(book: &[f64], n: usize, rows: &[usize], out: &mut [f64], floats: &mut [f64])
+    requires { ⌜ Fitting (length (now rows)) (now out) (now floats) × Readable (now book) n (now rows) ⌝ }
+    ensures { λ _. ⌜ (now (out .exit) ≡ grid (pairAt (distAt (now (book .entry)) n (now (rows .entry))) (length (now (rows .entry)))) (length (now (rows .entry)))) × (now (floats .exit) ≡ wiped (length (now (rows .entry))) (now (floats .entry))) ⌝ }
+{
+    let m = rows.len();
+    let end = 4 * (m * m);
+    book_pairs(book, n, rows, &mut floats[..end]);
+    hand_out(m, out, floats);
+}
+
+// Whether an output and a working list have the lengths for m items, for at most 256 items.
+fn lists_fit(m: usize, out: usize, floats: usize) -> bool
+    ensures { λ r. ⌜ (m ≤ 256 → r ≡ listsFit m out floats) ⌝ }
+{
+    if !refusals::is_square(out, m) {
+        return false;
+    }
+    refusals::has_room(floats, m)
+}
+
+// The first row of the table that applies.
+fn check_lists(
+    cells: usize,
+    n: usize,
+    m: usize,
+    out: usize,
+    floats: usize,
+    bad: usize,
+    count: usize,
+) -> Answer
+    ensures { λ r. ⌜ refusalOf r ≡ refusal cells n m (listsFit m out floats) bad count ⌝ }
+{
+    refusals::check(cells, n, m, lists_fit(m, out, floats), bad, count)
+}
+
+// The distances between the rows of n by n points.
+pub fn pairwise_distances(points: &[f64], n: usize, out: &mut [f64], floats: &mut [f64]) -> Answer
+    ensures { λ r. ⌜ record { answer = refusalOf r; out = now (out .exit); floats = now (floats .exit) } ≡ pairwiseDistances (now (points .entry)) n (now (out .entry)) (now (floats .entry)) ⌝ }
+{
+    let answer = check_lists(points.len(), n, n, out.len(), floats.len(), 0, 0);
+    if refusals::number_of(answer) != 0 {
+        return answer;
+    }
+    measure_points(points, n, out, floats);
+    answer
+}
+
+// The same of the distances of the book that the rows make.
+pub fn pairwise_distances_through(
+    book: &[f64],
+    n: usize,
+    rows: &[usize],
+    out: &mut [f64],
+    floats: &mut [f64],
+) -> Answer
+    ensures { λ r. ⌜ record { answer = refusalOf r; out = now (out .exit); floats = now (floats .exit) } ≡ pairwiseDistancesThrough (now (book .entry)) n (now (rows .entry)) (now (out .entry)) (now (floats .entry)) ⌝ }
+{
+    let m = rows.len();
+    let bad = lists::first_from(n, rows);
+    let answer = check_lists(book.len(), n, m, out.len(), floats.len(), bad, m);
+    if refusals::number_of(answer) != 0 {
+        return answer;
+    }
+    measure_book(book, n, rows, out, floats);
+    answer
 }

@@ -1,9 +1,11 @@
-use Prim.Native.Nat.{_*_, _+_, _≤_}
+use Prim.Native.Nat.{_*_, _+_, _-_, _≤_}
+use mathlib.Core.Path.{_∙_, _≡_}
 use native.Mathlib.Omega.{arith}
 use lib.ListN.{length}
 use borrow.Author.Needs.{needs}
 use Rattle.lists.proofs.Grid.{square-small}
 use Rattle.lists.proofs.Rows.{row-end, row-small}
+use Rattle.pairwise.proofs.Regions.{put-same}
 use Rattle.pairwise.proofs.square_row.Statement.{statement}
 use Rattle.pairwise.proofs.square_row.Tie as tie
 
@@ -47,7 +49,11 @@ same-length-2 : tie.Need-same-length-2
 same-length-2 c = search needs
 
 returns : tie.Need-returns
-returns c = ?
+returns c =
+    let m = c .before .before .before .before .before .before .before .before .before .before .before .before .args .m in
+    let at = 2 * (m * m) + c .before .before .before .before .before .before .before .before .before .before .before .before .args .i * m in
+    let k : at + m - at ≡ m = omega arith in
+    put-same at (at + m - at) m (c .before .before .before .before .before .before .before .before .before .before .before .before .args .area .now) k (c .before .before .copy .ensures ∙ c .before .before .before .before .before .before .before .squared-item .ensures)
 
 pub square-row-spec : {M : Type 1} → statement M
 square-row-spec =

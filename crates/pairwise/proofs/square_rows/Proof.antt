@@ -1,11 +1,13 @@
-use Prim.Native.Nat.{_*_, _-_, _≤_}
-use mathlib.Core.Path.{_≡_, refl}
+use Prim.Native.Nat.{_*_, _+_, _-_, _≤_}
+use mathlib.Core.Path.{_∙_, _≡_, refl}
+use native.Mathlib.Omega.{arith}
 use lib.ListN.{length}
 use borrow.Author.Needs.{needs}
 use Rattle.distance.specs.Distance.{squaredAt}
-use Rattle.lists.proofs.Areas.{area-none, areaTo}
+use Rattle.lists.specs.Lists.{cellAt}
+use Rattle.lists.proofs.Areas.{area-length, area-none, areaTo}
 use Rattle.pairwise.specs.Regions.{pointsAt}
-use Rattle.pairwise.proofs.Regions.{turned-rows}
+use Rattle.pairwise.proofs.Regions.{row-more, turned-rows}
 use Rattle.pairwise.proofs.square_rows.Statement.{statement}
 use Rattle.pairwise.proofs.square_rows.Tie as tie
 
@@ -28,7 +30,14 @@ loop-less : tie.Need-loop-less Inv-loop μ-loop
 loop-less c = search needs
 
 loop-again : tie.Need-loop-again Inv-loop μ-loop
-loop-again c = ?
+loop-again c =
+    let a = c .before .before .before .before .before .before .before .before .before .before .before .args in
+    let l = c .before .before .before .before .before .before .before .before .loop in
+    let m = a .m in
+    let h = c .before .before .before .before .before .before .before .loop-test .taken in
+    let g = squaredAt (pointsAt (a .area .now) m) m in
+    let q = row-more (λ p. squaredAt (cellAt p m) m) (2 * (m * m)) m (l .i) (a .area .now) (omega (arith, c .before .before .before .before .before .before .before .before .before .before .before .pre .0 .four .size)) (omega arith) h (l .inv .3) (c .before .before .before .before .square-row .ensures) in
+    (search needs, c .before .before .before .before .square-row .kept .1 .1 .1 .0 ∙ l .inv .1, area-length (2 * (m * m)) g m (l .i + 1) (a .area .now) q (omega (arith, c .before .before .before .before .before .before .before .before .before .before .before .pre .0 .four .size)) (omega arith), q)
 
 same-length : tie.Need-same-length Inv-loop μ-loop
 same-length c = search needs
@@ -37,7 +46,9 @@ same-length-2 : tie.Need-same-length-2 Inv-loop μ-loop
 same-length-2 c = search needs
 
 returns : tie.Need-returns Inv-loop μ-loop
-returns c = ?
+returns c =
+    let e : c .before .loop .i ≡ c .before .before .before .before .args .m = omega arith in
+    rw e at (c .before .loop .inv .3)
 
 pub square-rows-spec : {M : Type 1} → statement M
 square-rows-spec =
