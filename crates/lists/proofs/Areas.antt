@@ -3,13 +3,15 @@ use Prim.Native.Nat.{ℕ, zero, suc, _+_, _*_, _<_, _≤_}
 use mathlib.Core.Path.{_≡_, refl, sym, _∙_, ap}
 use mathlib.Core.List.{List, [], _∷_, _++_, append-assoc}
 use native.Mathlib.Numerals.{add-one}
+use native.Mathlib.Nat.{mul-le-mul-right, suc-mul, zero-mul}
 use native.Mathlib.Omega.{arith}
 use lib.ListN.{length, getD, take, drop, set, length-set, length-take, length-drop, take-append-drop}
-use lib.Seq.{take-set-le, drop-set-add, drop-cons, set-at, drop-drop, getD-take, getD-drop, ext-getD}
-use Rattle.lists.specs.Lists.{listed, row}
-use Rattle.lists.proofs.Listed.{writes, writes-front}
+use lib.Seq.{take-set-le, drop-set-add, drop-cons, set-at, take-add, drop-drop, getD-take, getD-drop, ext-getD}
+use Rattle.lists.specs.Lists.{listed, row, part, put, flat}
+use Rattle.lists.proofs.Listed.{writes, writes-front, length-listed, listed-same}
 use Rattle.lists.proofs.Rows.{row-end}
-use Rattle.lists.proofs.Grid.{row-long}
+use Rattle.lists.proofs.Grid.{row-long, flat-at, listed-append}
+use Rattle.lists.proofs.Parts.{put-length, put-take, put-part, put-drop}
 
 module _ {A : Type 0} where
   -- d after the stores of f 0, .., f (n - 1) at b, .., b + n - 1
@@ -53,3 +55,44 @@ module _ {A : Type 0} where
       (λ k l.
       let m : k < n = omega (arith, row-long p n i lp h) in
       row-cell z p n i k h m ∙ ap (λ x. getD x (i * n + k) z) e ∙ sym (row-cell z q n i k h m))
+
+  -- the same three areas, as a part that was put
+  pub stores-put : (z : A) (b : ℕ) (f : ℕ → A) (n : ℕ) {xs : List A} (d : List A) → xs ≡ stores b f n d → b + n ≤ length d → xs ≡ put b n d (listed f n)
+  stores-put z b f n d e h = stores-done z b f n d e h ∙ rw (drop-drop n b d)
+
+  -- two parts that were put one behind the other, as one
+  pub put-next : (a k j e : ℕ) (xs ys zs : List A) → e ≡ a + k → a + k ≤ length xs → length ys ≡ k → put e j (put a k xs ys) zs ≡ put a (k + j) xs (ys ++ zs)
+  put-next a k j e xs ys zs s h l =
+      let front : take (a + k) (put a k xs ys) ≡ take a xs ++ ys = take-add a k (put a k xs ys) ∙ rw (put-take a k xs ys h l a (omega arith), put-part a k xs ys h l) in
+      let back : drop j (drop (a + k) (put a k xs ys)) ≡ drop (k + j) (drop a xs) = rw (put-drop a k xs ys h l (a + k) (omega arith), ← drop-drop k a xs, drop-drop j k (drop a xs)) in
+      rw (s, front, back) (append-assoc (take a xs) ys (zs ++ drop (k + j) (drop a xs)) ∙ ap (λ (x : List A). take a xs ++ x) (sym (append-assoc ys zs (drop (k + j) (drop a xs)))))
+
+  -- d after the first i rows of g have been put from b on
+  abbrev pub areaTo : ℕ → (ℕ → ℕ → A) → ℕ → ℕ → List A → List A
+  areaTo b g m i d = put b (i * m) d (listed (flat g m) (i * m))
+
+  pub area-none : (b : ℕ) (g : ℕ → ℕ → A) (m : ℕ) (d : List A) → d ≡ areaTo b g m 0 d
+  unfolding listed
+  area-none b g m d = rw (zero-mul m) (sym (take-append-drop b d))
+
+  module _ (b : ℕ) (g : ℕ → ℕ → A) (m i : ℕ) (d : List A) where
+    rows-fit : b + m * m ≤ length d → i ≤ m → b + i * m ≤ length d
+    rows-fit h l = omega (arith, mul-le-mul-right m l)
+
+    pub area-more : {xs ys : List A} → xs ≡ areaTo b g m i d → b + m * m ≤ length d → i < m → ys ≡ listed (g i) m → put (b + i * m) m xs ys ≡ areaTo b g m (i + 1) d
+    area-more e h l q =
+        let s : (i + 1) * m ≡ i * m + m = rw add-one (suc-mul i m) in
+        let t : listed (g i) m ≡ listed (λ j. flat g m (i * m + j)) m = listed-same (g i 0) (g i) (λ j. flat g m (i * m + j)) m (λ j k. sym (flat-at g m i j k)) in
+        rw (e, q, s, t)
+        (put-next b (i * m) m (b + i * m) d (listed (flat g m) (i * m)) (listed (λ j. flat g m (i * m + j)) m) refl (rows-fit h (omega arith)) (length-listed (flat g m) (i * m))
+        ∙ ap (λ (x : List A). put b (i * m + m) d x) (listed-append (flat g m) (i * m) m))
+
+    -- what lies before the rows, the rows, and the length
+    pub area-front : {xs : List A} → xs ≡ areaTo b g m i d → b + m * m ≤ length d → i ≤ m → take b xs ≡ take b d
+    area-front e h l = rw e (put-take b (i * m) d (listed (flat g m) (i * m)) (rows-fit h l) (length-listed (flat g m) (i * m)) b (omega arith))
+
+    pub area-rows : {xs : List A} → xs ≡ areaTo b g m i d → b + m * m ≤ length d → i ≤ m → part b (i * m) xs ≡ listed (flat g m) (i * m)
+    area-rows e h l = rw e (put-part b (i * m) d (listed (flat g m) (i * m)) (rows-fit h l) (length-listed (flat g m) (i * m)))
+
+    pub area-length : {xs : List A} → xs ≡ areaTo b g m i d → b + m * m ≤ length d → i ≤ m → length xs ≡ length d
+    area-length e h l = rw e (put-length b (i * m) d (listed (flat g m) (i * m)) (rows-fit h l) (length-listed (flat g m) (i * m)))

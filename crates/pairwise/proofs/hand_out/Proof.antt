@@ -1,0 +1,99 @@
+use Prim.Native.Nat.{_*_, _+_, _-_, ℕ}
+use mathlib.Core.Path.{_∙_, _≡_, ap, sym}
+use mathlib.Core.List.{List, _++_}
+use native.Mathlib.Omega.{arith}
+use lib.ListN.{drop, replicate}
+use lib.Seq.{length-take-le}
+use lib.Ieee.{Float, ofBits}
+use borrow.Author.Needs.{needs}
+use Rattle.refusals.specs.Table.{workDoubles}
+use Rattle.lists.specs.Sums.{zero64}
+use Rattle.lists.specs.Lists.{part}
+use Rattle.pairwise.proofs.hand_out.Statement.{statement}
+use Rattle.pairwise.proofs.hand_out.Tie as tie
+
+mul-fourth : tie.Need-mul-fourth
+mul-fourth c = search needs
+
+mul-fourth-2 : tie.Need-mul-fourth-2
+mul-fourth-2 c = search needs
+
+mul-end : tie.Need-mul-end
+mul-end c = search needs
+
+add-end : tie.Need-add-end
+add-end c = search needs
+
+mul-copy : tie.Need-mul-copy
+mul-copy c = search needs
+
+sub-copy : tie.Need-sub-copy
+sub-copy c = search needs
+
+part-copy-start : tie.Need-part-copy-start
+part-copy-start c = search needs
+
+part-copy-end : tie.Need-part-copy-end
+part-copy-end c = search needs
+
+copy-requires : tie.Need-copy-requires
+copy-requires c κs = search needs
+
+mul-work : tie.Need-mul-work
+mul-work c = search needs
+
+mul-work-2 : tie.Need-mul-work-2
+mul-work-2 c = search needs
+
+mul-work-3 : tie.Need-mul-work-3
+mul-work-3 c = search needs
+
+add-work : tie.Need-add-work
+add-work c = search needs
+
+slice-relend-prefix-fill : tie.Need-slice-relend-prefix-fill
+slice-relend-prefix-fill c = search needs
+
+slice-aggregate-fill : tie.Need-slice-aggregate-fill
+slice-aggregate-fill c = sym (length-take-le (8 * (c .before .before .before .before .before .before .before .before .before .args .m * c .before .before .before .before .before .before .before .before .before .args .m) + 256 * c .before .before .before .before .before .before .before .before .before .args .m) (c .before .before .before .before .before .before .before .before .before .args .floats .now) (c .before .before .before .before .before .before .before .before .before .pre .room))
+
+fill-requires : tie.Need-fill-requires
+fill-requires c κs = search needs
+
+same-length : tie.Need-same-length
+same-length c = search needs
+
+same-length-2 : tie.Need-same-length-2
+same-length-2 c = search needs
+
+returns : tie.Need-returns
+unfolding ofBits
+returns c =
+    let m = c .before .before .before .before .before .before .before .before .before .before .before .before .args .m in
+    let floats = c .before .before .before .before .before .before .before .before .before .before .before .before .args .floats .now in
+    let k : 3 * (m * m) + m * m - 3 * (m * m) ≡ m * m = omega arith in
+    (c .before .before .before .before .before .before .copy .ensures ∙ ap (λ (j : ℕ). part (3 * (m * m)) j floats) k, ap (λ (x : List Float). x ++ drop (workDoubles m) floats) (c .before .before .fill .ensures ∙ ap (λ (j : ℕ). replicate j zero64) (length-take-le (workDoubles m) floats (c .before .before .before .before .before .before .before .before .before .before .before .before .pre .room))))
+
+pub hand-out-spec : {M : Type 1} → statement M
+hand-out-spec =
+    tie.close
+    (tie.spec
+    mul-fourth
+    mul-fourth-2
+    mul-end
+    add-end
+    mul-copy
+    sub-copy
+    part-copy-start
+    part-copy-end
+    copy-requires
+    mul-work
+    mul-work-2
+    mul-work-3
+    add-work
+    slice-relend-prefix-fill
+    slice-aggregate-fill
+    fill-requires
+    same-length
+    same-length-2
+    returns)
