@@ -7,6 +7,7 @@ use lib.ListN.{length}
 use lib.IntN.{pos, negsuc}
 use lib.Ieee.{Float, inf, fin}
 use Rattle.lists.specs.Lists.{listed, cells}
+use Rattle.lists.specs.Sums.{counted}
 use Rattle.sqrt.specs.Root.{root}
 use Rattle.stats.specs.Average as stats
 use Rattle.tstat.specs.Quality as quality
@@ -42,12 +43,12 @@ pub record Example : Type 0 where
   pub asked : Question
   pub expected : Answered
 
--- m times 2 ^ e, and whole numbers
+-- m * 2 ^ -(e + 1), and whole numbers
 abbrev pub scaled : ℕ → ℕ → Float
 scaled m e = fin false m (negsuc e)
 
 abbrev pub whole : ℕ → Float
-whole n = fin false n (pos 0)
+whole n = counted n
 
 -- the answer that an average gives where there is none
 abbrev pub nothing : Answered
@@ -56,7 +57,6 @@ nothing = record { number = 0; values = [] }
 abbrev pub one : Float → Answered
 one x = record { number = 0; values = x ∷ [] }
 
--- 0.25, 0.5, 0.75; `scaled m e` is m * 2 ^ -(e + 1)
 abbrev pub quarter : Float
 quarter = scaled 1 1
 

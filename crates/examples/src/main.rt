@@ -5,7 +5,7 @@
 ghost use Prim.Native.Nat.{_≤_};
 ghost use mathlib.Core.Path.{_≡_};
 ghost use lib.ListN.{length};
-use distance::Squared;
+use squared::Squared;
 use refusals::Answer;
 use stats::Average;
 
@@ -222,7 +222,7 @@ fn call_value(leaf: u64, ddof: usize, a: &[f64], b: &[f64]) -> Outcome {
         4 => of_average(stats::std_dev(a, ddof)),
         5 => of_average(tstat::tstat(a)),
         6 => of_average(tstat::mean_of(a)),
-        _ => one_value(distance::squared_distance(a, b)),
+        _ => one_value(squared::squared_distance(a, b)),
     }
 }
 
@@ -365,7 +365,7 @@ fn right_value(text: &[u8], c: Case, a: &[f64], b: &[f64], rows: &[usize], expec
     requires { ⌜ expected ≤ 30000 ⌝ }
 {
     let o = if c.leaf == 14 {
-        of_squared(distance::squared_distance_through(a, c.n, rows, c.i, c.j))
+        of_squared(squared::squared_distance_through(a, c.n, rows, c.i, c.j))
     } else if c.leaf == 15 {
         call_many(c.i, c.n)
     } else {
