@@ -233,9 +233,9 @@ fn hand_out(m: usize, out: &mut [f64], floats: &mut [f64])
     requires { ⌜ Fitting m (now out) (now floats) ⌝ }
     ensures { λ _. ⌜ (now (out .exit) ≡ part (3 * (m * m)) (m * m) (now (floats .entry))) × (now (floats .exit) ≡ wiped m (now (floats .entry))) ⌝ }
 {
-    let fourth = 3 * (m * m);
-    let end = fourth + m * m;
-    lists::copy(&floats[fourth..end], out);
+    let pairs = 3 * (m * m);
+    let end = pairs + m * m;
+    lists::copy(&floats[pairs..end], out);
     let work = 8 * (m * m) + 256 * m;
     lists::fill(&mut floats[..work], 0.0);
 }

@@ -1,8 +1,8 @@
 use Prim.Native.Nat.{_*_, _+_, _-_, ℕ}
-use mathlib.Core.Path.{_∙_, _≡_, ap, sym}
+use mathlib.Core.Path.{_∙_, _≡_, ap}
 use mathlib.Core.List.{List, _++_}
 use native.Mathlib.Omega.{arith}
-use lib.ListN.{drop, replicate}
+use lib.ListN.{drop, length-take, replicate}
 use lib.Seq.{length-take-le}
 use lib.Ieee.{Float, ofBits}
 use borrow.Author.Needs.{needs}
@@ -12,11 +12,11 @@ use Rattle.lists.specs.Lists.{part}
 use Rattle.pairwise.proofs.hand_out.Statement.{statement}
 use Rattle.pairwise.proofs.hand_out.Tie as tie
 
-mul-fourth : tie.Need-mul-fourth
-mul-fourth c = search needs
+mul-pairs : tie.Need-mul-pairs
+mul-pairs c = search needs
 
-mul-fourth-2 : tie.Need-mul-fourth-2
-mul-fourth-2 c = search needs
+mul-pairs-2 : tie.Need-mul-pairs-2
+mul-pairs-2 c = search needs
 
 mul-end : tie.Need-mul-end
 mul-end c = search needs
@@ -55,7 +55,7 @@ slice-relend-prefix-fill : tie.Need-slice-relend-prefix-fill
 slice-relend-prefix-fill c = search needs
 
 slice-aggregate-fill : tie.Need-slice-aggregate-fill
-slice-aggregate-fill c = sym (length-take-le (8 * (c .before .before .before .before .before .before .before .before .before .args .m * c .before .before .before .before .before .before .before .before .before .args .m) + 256 * c .before .before .before .before .before .before .before .before .before .args .m) (c .before .before .before .before .before .before .before .before .before .args .floats .now) (c .before .before .before .before .before .before .before .before .before .pre .room))
+slice-aggregate-fill c = simp length-take (omega (arith, c .before .before .before .before .before .before .before .before .before .pre .room))
 
 fill-requires : tie.Need-fill-requires
 fill-requires c κs = search needs
@@ -78,8 +78,8 @@ pub hand-out-spec : {M : Type 1} → statement M
 hand-out-spec =
     tie.close
     (tie.spec
-    mul-fourth
-    mul-fourth-2
+    mul-pairs
+    mul-pairs-2
     mul-end
     add-end
     mul-copy
