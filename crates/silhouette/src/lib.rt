@@ -44,11 +44,12 @@ fn larger(a: f64, b: f64) -> f64
 fn score_of(a: f64, b: f64) -> f64
     ensures { λ r. ⌜ r ≡ scoring.scoreOf a b ⌝ }
 {
+    let zero = 0.0;
     if !stats::is_finite(b) {
-        return 0.0;
+        return zero;
     }
     if both_zero(a, b) {
-        return 0.0;
+        return zero;
     }
     (b - a) / larger(a, b)
 }

@@ -20,7 +20,7 @@ mul-kept : tie.Need-mul-kept Inv-loop μ-loop
 mul-kept c = search needs
 
 slice-read-kept : tie.Need-slice-read-kept Inv-loop μ-loop
-slice-read-kept c = search needs
+slice-read-kept c = omega arith
 
 loop-holds : tie.Need-loop-holds Inv-loop μ-loop
 unfolding writes
@@ -30,25 +30,25 @@ mul-sums : tie.Need-mul-sums Inv-loop μ-loop
 mul-sums c = search needs
 
 slice-read-sums : tie.Need-slice-read-sums Inv-loop μ-loop
-slice-read-sums c = search needs
+slice-read-sums c = omega arith
 
 mul-sums-2 : tie.Need-mul-sums-2 Inv-loop μ-loop
 mul-sums-2 c = search needs
 
 shared-slice-read-sums : tie.Need-shared-slice-read-sums Inv-loop μ-loop
-shared-slice-read-sums c = search needs
+shared-slice-read-sums c = omega arith
 
 mul-sums-3 : tie.Need-mul-sums-3 Inv-loop μ-loop
 mul-sums-3 c = search needs
 
 slice-write-sums : tie.Need-slice-write-sums Inv-loop μ-loop
-slice-write-sums c = search needs
+slice-write-sums c = omega arith
 
 add-i : tie.Need-add-i Inv-loop μ-loop
-add-i c = search needs
+add-i c = omega arith
 
 loop-less : tie.Need-loop-less Inv-loop μ-loop
-loop-less c = search needs
+loop-less c = omega arith
 
 loop-again : tie.Need-loop-again Inv-loop μ-loop
 loop-again c =
@@ -59,7 +59,7 @@ mul-sums-4 : tie.Need-mul-sums-4 Inv-loop μ-loop
 mul-sums-4 c = search needs
 
 slice-write-sums-2 : tie.Need-slice-write-sums-2 Inv-loop μ-loop
-slice-write-sums-2 c = search needs
+slice-write-sums-2 c = omega arith
 
 same-length : tie.Need-same-length Inv-loop μ-loop
 same-length c =
