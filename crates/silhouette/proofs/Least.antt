@@ -1,14 +1,14 @@
 -- The least mean: one more group, groups that have no member, NaNs; and that a score needs the distances below n alone.
 use Prim.Native.Nat.{ℕ, zero, suc, _+_, _<_, _≤_}
-use mathlib.Core.Path.{_≡_, refl, sym, _∙_, ap}
-use mathlib.Core.Bool.{Bool, true, false, _||_}
+use mathlib.Core.Path.{_≡_, refl, sym, _∙_, ap, subst}
+use mathlib.Core.Bool.{Bool, true, false, cond, _||_}
 use mathlib.Core.Logic.{⊎-elim}
 use native.Mathlib.Numerals.{add-one}
 use native.Mathlib.Nat.{eq-or-lt-of-le}
 use native.Mathlib.Omega.{arith}
 use borrow.Author.Tests.{eq-eqb, ne-eqb}
-use lib.Dec.{eqb}
-use lib.Ieee.{Float, fin, inf, nan, add, div, lt, eq, binary64}
+use lib.Dec.{T, eqb}
+use lib.Ieee.{Float, fin, inf, nan, isNan, ofInt, add, div, lt, binary64}
 use Rattle.lists.specs.Sums.{zero64, counted, foldIf}
 use Rattle.lists.proofs.Sums.{fold-same}
 use Rattle.silhouette.specs.Scores.{member, groupSum, groupCount, least, lesser, scoreOf, scoreFrom, silhouette}
@@ -39,7 +39,7 @@ module _ (s : ℕ → Float) (c : ℕ → ℕ) (own : ℕ) where
       (λ q. least-beyond k n h (omega arith) ∙ rw (← add-one n) (least-none n (h n (omega arith))))
       (eq-or-lt-of-le {n = k} {m = suc n} b)
 
--- a NaN is below nothing, and nothing is below a NaN
+-- a NaN is below nothing
 pub nan-over : (x : Float) → div binary64 nan x ≡ nan
 unfolding div
 nan-over nan = refl
@@ -52,15 +52,51 @@ lesser-nan nan = refl
 lesser-nan (inf s) = refl
 lesser-nan (fin s m e) = refl
 
-pub nan-lesser : (x : Float) → lesser x nan ≡ nan
-unfolding lt
-nan-lesser nan = refl
-nan-lesser (inf s) = refl
-nan-lesser (fin s m e) = refl
+-- the least mean is no NaN
+chosen : (t : Bool) (x b : Float) → isNan x ≡ false → isNan b ≡ false → isNan (cond t x b) ≡ false
+chosen true x b h g = h
+chosen false x b h g = g
 
-pub score-nan : (a : Float) → scoreOf a nan ≡ zero64
+lesser-number : (x b : Float) → isNan b ≡ false → isNan (lesser x b) ≡ false
+unfolding isNan
+lesser-number nan b h = rw (lesser-nan b) h
+lesser-number (inf s) b h = chosen (lt (inf s) b) (inf s) b refl h
+lesser-number (fin s m e) b h = chosen (lt (fin s m e) b) (fin s m e) b refl h
+
+passed : (t : Bool) (b y : Float) → isNan b ≡ false → isNan y ≡ false → isNan (cond t b y) ≡ false
+passed true b y h g = h
+passed false b y h g = g
+
+pub least-number : (s : ℕ → Float) (c : ℕ → ℕ) (own l : ℕ) → isNan (least s c own l) ≡ false
+unfolding least isNan
+least-number s c own zero = refl
+least-number s c own (suc l) =
+    let h = least-number s c own l in
+    passed (eqb l own || eqb (c l) 0) (least s c own l) (lesser (div binary64 (s l) (counted (c l))) (least s c own l)) h
+    (lesser-number (div binary64 (s l) (counted (c l))) (least s c own l) h)
+
+-- -infinity over one, below each number; nothing is below it; and its score
+pub low-over : (count : ℕ) → count ≡ 1 → div binary64 (inf true) (counted count) ≡ inf true
+unfolding div ofInt
+low-over count e = rw e refl
+
+pub lesser-low : (b : Float) → isNan b ≡ false → lesser (inf true) b ≡ inf true
+unfolding lt isNan
+lesser-low nan h = absurd (subst T h tt)
+lesser-low (inf true) h = refl
+lesser-low (inf false) h = refl
+lesser-low (fin s m e) h = refl
+
+pub low-lesser : (x : Float) → lesser x (inf true) ≡ inf true
+unfolding lt
+low-lesser nan = refl
+low-lesser (inf true) = refl
+low-lesser (inf false) = refl
+low-lesser (fin s m e) = refl
+
+pub score-low : (a : Float) → scoreOf a (inf true) ≡ zero64
 unfolding scoreOf
-score-nan a = refl
+score-low a = refl
 
 -- sums that agree have the same least mean
 pub least-same : (s t : ℕ → Float) (c : ℕ → ℕ) (own n : ℕ) → ((l : ℕ) → s l ≡ t l) → least s c own n ≡ least t c own n

@@ -15,52 +15,9 @@ use Rattle.lists.specs.Sums.{zero64, counted, countIf}
 use Rattle.lists.proofs.Listed.{listed-same, listed-const, listed-length, getD-listed, length-listed}
 use Rattle.lists.proofs.Sums.{fold-none}
 use Rattle.silhouette.specs.Scores.{member, groupSum, groupCount, lesser, least, scoreOf, scoreFrom, silhouette}
-use Rattle.silhouette.specs.Groups.{distance, groupSize, atMembers, settled, ownMean, loneBelow, leastBelow, Midway, scoresAcross}
+use Rattle.silhouette.specs.Groups.{distance, groupSize, atMembers, markOf, ownMean, loneBelow, leastBelow, Midway, scoresAcross}
 use Rattle.silhouette.proofs.Members.{size-in, size-out}
-use Rattle.silhouette.proofs.Least.{least-own, least-none, least-more, least-beyond, nan-over, lesser-nan, nan-lesser, score-nan}
-
--- The two lists that a group leaves, from what each call left.
-module _ (labels : List ℕ) (l count : ℕ) (sums b : List Float) where
-  abbrev m : ℕ
-  m = length labels
-
-  abbrev label : ℕ → ℕ
-  label = numbers labels
-
-  -- the least means, where the sums of the members are NaN
-  abbrev kept : List Float → ℕ → Float
-  kept s i = lesser (div binary64 (cells s i) (counted count)) (cells b i)
-
-  marked : {s : List Float} → s ≡ listed (atMembers label l (λ i. nan) (cells sums)) m → (i : ℕ) → i < m
-      → kept s i ≡ cond (eqb (label i) l) (cells b i) (lesser (div binary64 (cells sums i) (counted count)) (cells b i))
-  marked {s} e i h =
-      let cell : cells s i ≡ atMembers label l (λ i. nan) (cells sums) i = ap (λ (x : List Float). cells x i) e ∙ getD-listed (atMembers label l (λ i. nan) (cells sums)) m i nan h in
-      rw cell (by-test (eqb (label i) l))
-    where
-      by-test : (t : Bool) → lesser (div binary64 (cond t nan (cells sums i)) (counted count)) (cells b i) ≡ cond t (cells b i) (lesser (div binary64 (cells sums i) (counted count)) (cells b i))
-      by-test true = rw (nan-over (counted count)) (lesser-nan (cells b i))
-      by-test false = refl
-
-  module _ {s b′ : List Float} (e : s ≡ listed (atMembers label l (λ i. nan) (cells sums)) m) (k : b′ ≡ listed (kept s) (length b)) (len : length b ≡ m) where
-    -- more members than one
-    pub settled-more : (count ≡ 1 → ⊥) → b′ ≡ listed (settled label l count (cells sums) (cells b)) m
-    settled-more h =
-        k ∙ ap (listed (kept s)) len
-        ∙ listed-same nan (kept s) (settled label l count (cells sums) (cells b)) m (λ i q. marked e i q ∙ rw (ne-eqb count 1 h))
-
-    -- a lone member, which is marked
-    pub settled-lone : {b″ : List Float} → count ≡ 1 → b″ ≡ listed (atMembers label l (λ i. nan) (cells b′)) m
-        → b″ ≡ listed (settled label l count (cells sums) (cells b)) m
-    settled-lone h g =
-        g ∙ listed-same nan (atMembers label l (λ i. nan) (cells b′)) (settled label l count (cells sums) (cells b)) m
-        (λ i q.
-        let cell : cells b′ i ≡ cond (eqb (label i) l) (cells b i) (lesser (div binary64 (cells sums i) (counted count)) (cells b i)) =
-        ap (λ (x : List Float). cells x i) (k ∙ ap (listed (kept s)) len) ∙ getD-listed (kept s) m i nan q ∙ marked e i q in
-        rw (cell, eq-eqb count 1 h) (by-test (eqb (label i) l) (cells b i) (lesser (div binary64 (cells sums i) (counted count)) (cells b i))))
-      where
-        by-test : (t : Bool) (x y : Float) → cond t nan (cond t x y) ≡ cond t nan y
-        by-test true x y = refl
-        by-test false x y = refl
+use Rattle.silhouette.proofs.Least.{least-own, least-none, least-more, least-beyond, least-number, nan-over, lesser-nan, low-over, lesser-low, low-lesser, score-low}
 
 above : (x l : ℕ) → (x ≡ l → ⊥) → (x < l → ⊥) → l + 1 ≤ x
 above x l h q = by-cases (decLt l x) (λ r. omega arith) (λ r. let e : x ≡ l = omega arith in absurd (h e))
@@ -119,17 +76,24 @@ module _ (across : List Float) (labels : List ℕ) where
         }
 
     -- a group with members
-    pub midway-more : (count : ℕ) {sums scores′ own′ : List Float} → count ≡ groupSize name n l → (count ≡ 0 → ⊥) → sums ≡ listed (λ i. sumOf i l) n
+    pub midway-more : (count : ℕ) {sums marked scores′ own′ : List Float} → count ≡ groupSize name n l → (count ≡ 0 → ⊥) → sums ≡ listed (λ i. sumOf i l) n
         → own′ ≡ listed (atMembers name l (λ i. div binary64 (cells sums i) (counted (count - 1))) (cells own)) n
-        → scores′ ≡ listed (settled name l count (cells sums) (cells scores)) n
+        → marked ≡ listed (atMembers name l (λ i. markOf count) (cells sums)) n
+        → scores′ ≡ listed (λ i. lesser (div binary64 (cells marked i) (counted count)) (cells scores i)) (length scores)
         → Midway across labels (l + 1) scores′ own′
-    midway-more count {sums} {scores′} {own′} c z s o g =
+    midway-more count {sums} {marked} {scores′} {own′} c z s o k g =
         record {
-          leasts = g ∙ listed-same nan (settled name l count (cells sums) (cells scores)) (leastBelow across labels (l + 1)) n least-step;
+          leasts = g ∙ ap (listed kept) midway-length ∙ listed-same nan kept (leastBelow across labels (l + 1)) n least-step;
           means = mean-step;
           means-length = listed-length (atMembers name l (λ i. div binary64 (cells sums i) (counted (count - 1))) (cells own)) n o;
         }
       where
+        kept : ℕ → Float
+        kept i = lesser (div binary64 (cells marked i) (counted count)) (cells scores i)
+
+        mark-at : (i : ℕ) → i < n → cells marked i ≡ atMembers name l (λ i. markOf count) (cells sums) i
+        mark-at i q = ap (λ (x : List Float). cells x i) k ∙ getD-listed (atMembers name l (λ i. markOf count) (cells sums)) n i nan q
+
         sum-at : (i : ℕ) → i < n → cells sums i ≡ sumOf i l
         sum-at i q = ap (λ (x : List Float). cells x i) s ∙ getD-listed (λ i. sumOf i l) n i nan q
 
@@ -139,22 +103,35 @@ module _ (across : List Float) (labels : List ℕ) where
         others : (i : ℕ) → i < n → name i ≡ l → count ≡ countOf i (name i) + 1
         others i q e = c ∙ ap (λ (x : ℕ). groupSize name n x) (sym e) ∙ size-in name i (name i) n refl q
 
-        within : (i : ℕ) → i < n → name i ≡ l → settled name l count (cells sums) (cells scores) i ≡ leastBelow across labels (l + 1) i
+        own-step : (i : ℕ) → lesser (div binary64 (markOf count) (counted count)) (least (sumOf i) (countOf i) (name i) l) ≡ cond (eqb count 1) (inf true) (least (sumOf i) (countOf i) (name i) l)
+        own-step i =
+            by-cases (ℕ-discrete count 1)
+            (λ e. rw (eq-eqb count 1 e, low-over count e) (lesser-low (least (sumOf i) (countOf i) (name i) l) (least-number (sumOf i) (countOf i) (name i) l)))
+            (λ h. rw (ne-eqb count 1 h, nan-over (counted count)) (lesser-nan (least (sumOf i) (countOf i) (name i) l)))
+
+        within : (i : ℕ) → i < n → name i ≡ l → kept i ≡ leastBelow across labels (l + 1) i
         within i q e =
             let last : eqb count 1 ≡ eqb (countOf i (name i)) 0 = ap (λ (x : ℕ). eqb x 1) (others i q e) ∙ one-fewer (countOf i (name i)) in
-            rw (eq-eqb (name i) l e, last, score-at i q, le-ltb (name i) l (omega arith), lt-ltb (name i) (l + 1) (omega arith), least-own (sumOf i) (countOf i) (name i) l (sym e))
+            let least-at : cells scores i ≡ least (sumOf i) (countOf i) (name i) l = score-at i q ∙ rw (le-ltb (name i) l (omega arith)) in
+            let mark : cells marked i ≡ markOf count = mark-at i q ∙ rw (eq-eqb (name i) l e) in
+            ap (λ (x : Float). lesser (div binary64 x (counted count)) (cells scores i)) mark
+            ∙ ap (λ (x : Float). lesser (div binary64 (markOf count) (counted count)) x) least-at
+            ∙ own-step i
+            ∙ rw (last, lt-ltb (name i) (l + 1) (omega arith), least-own (sumOf i) (countOf i) (name i) l (sym e))
 
-        by-mark : (t : Bool) (x y : Float) → lesser x (cond t nan y) ≡ cond t nan (lesser x y)
-        by-mark true x y = nan-lesser x
+        by-mark : (t : Bool) (x y : Float) → lesser x (cond t (inf true) y) ≡ cond t (inf true) (lesser x y)
+        by-mark true x y = low-lesser x
         by-mark false x y = refl
 
-        outside : (i : ℕ) → i < n → (name i ≡ l → ⊥) → settled name l count (cells sums) (cells scores) i ≡ leastBelow across labels (l + 1) i
+        outside : (i : ℕ) → i < n → (name i ≡ l → ⊥) → kept i ≡ leastBelow across labels (l + 1) i
         outside i q h =
             let members : count ≡ countOf i l = c ∙ sym (size-out name i l n h) in
-            rw (ne-eqb (name i) l h, sum-at i q, score-at i q, members, ← next-below (name i) l h, ← least-more (sumOf i) (countOf i) (name i) l (λ e. h (sym e)) (λ e. z (members ∙ e)))
+            let sum : cells marked i ≡ sumOf i l = mark-at i q ∙ rw (ne-eqb (name i) l h) (sum-at i q) in
+            ap (λ (x : Float). lesser (div binary64 x (counted count)) (cells scores i)) sum
+            ∙ rw (score-at i q, members, ← next-below (name i) l h, ← least-more (sumOf i) (countOf i) (name i) l (λ e. h (sym e)) (λ e. z (members ∙ e)))
             (by-mark (loneBelow labels l i) (div binary64 (sumOf i l) (counted (countOf i l))) (least (sumOf i) (countOf i) (name i) l))
 
-        least-step : (i : ℕ) → i < n → settled name l count (cells sums) (cells scores) i ≡ leastBelow across labels (l + 1) i
+        least-step : (i : ℕ) → i < n → kept i ≡ leastBelow across labels (l + 1) i
         least-step i q = by-cases (ℕ-discrete (name i) l) (within i q) (outside i q)
 
         mean-step : (i : ℕ) → i < n → name i < l + 1 → cells own′ i ≡ ownMean across labels i
@@ -166,8 +143,8 @@ module _ (across : List Float) (labels : List ℕ) where
             rw (eq-eqb (name i) l e, sum-at i q, fewer) (ap (λ (x : ℕ). div binary64 (sumOf i x) (counted (countOf i (name i)))) (sym e)))
             (λ h. rw (ne-eqb (name i) l h) (before .means i q (apart (name i) l h b)))
 
-  by-lone : (t : Bool) (a b : Float) → scoreOf a (cond t nan b) ≡ cond t zero64 (scoreOf a b)
-  by-lone true a b = score-nan a
+  by-lone : (t : Bool) (a b : Float) → scoreOf a (cond t (inf true) b) ≡ cond t zero64 (scoreOf a b)
+  by-lone true a b = score-low a
   by-lone false a b = refl
 
   -- each label is below k: every group is settled

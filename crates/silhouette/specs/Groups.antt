@@ -1,15 +1,15 @@
 -- What the inner functions leave: the groups one after the other, all items at a time. Definitions only.
 -- `across` has a row for each item j, with the distances of all items to j; m is the count of items.
-use Prim.Native.Nat.{ℕ, _+_, _-_, _*_, _<_, _≤_}
+use Prim.Native.Nat.{ℕ, _*_, _<_, _≤_}
 use mathlib.Core.Path.{_≡_}
-use mathlib.Core.Bool.{Bool, cond, _&&_}
+use mathlib.Core.Bool.{Bool, true, cond, _&&_}
 use mathlib.Core.List.{List}
 use lib.Dec.{eqb, ltb}
 use lib.ListN.{length}
-use lib.Ieee.{Float, nan, add, div, binary64}
+use lib.Ieee.{Float, nan, inf, div, binary64}
 use Rattle.lists.specs.Lists.{listed, cells, numbers, cellAt}
-use Rattle.lists.specs.Sums.{counted, sumIf, countIf}
-use Rattle.silhouette.specs.Scores.{member, groupSum, groupCount, lesser, least, silhouette}
+use Rattle.lists.specs.Sums.{counted, countIf}
+use Rattle.silhouette.specs.Scores.{groupSum, groupCount, least, silhouette}
 
 -- the distance of item i to item j
 abbrev pub distance : List Float → ℕ → ℕ → ℕ → Float
@@ -23,9 +23,9 @@ groupSize label n l = countIf (λ j. eqb (label j) l) n
 abbrev pub atMembers : (ℕ → ℕ) → ℕ → (ℕ → Float) → (ℕ → Float) → ℕ → Float
 atMembers label l v old i = cond (eqb (label i) l) (v i) (old i)
 
--- b of item i after a group l of `count` members, from b before and from the sum s to the members but itself: a NaN marks a lone member
-abbrev pub settled : (ℕ → ℕ) → ℕ → ℕ → (ℕ → Float) → (ℕ → Float) → ℕ → Float
-settled label l count s b i = cond (eqb (label i) l) (cond (eqb count 1) nan (b i)) (lesser (div binary64 (s i) (counted count)) (b i))
+-- stands for the sum of a member of a group of `count`, so that its own group gives no b: a NaN is below nothing; a lone member is marked by -infinity
+abbrev pub markOf : ℕ → Float
+markOf count = cond (eqb count 1) (inf true) nan
 
 -- a: the mean distance of item i to the others of its group
 abbrev pub ownMean : List Float → List ℕ → ℕ → Float
@@ -37,10 +37,10 @@ ownMean across labels i =
 abbrev pub loneBelow : List ℕ → ℕ → ℕ → Bool
 loneBelow labels l i = ltb (numbers labels i) l && eqb (groupCount (numbers labels) (length labels) i (numbers labels i)) 0
 
--- b of item i over the groups below l; a NaN marks an item that is alone in one of them
+-- b of item i over the groups below l; -infinity marks an item that is alone in one of them
 abbrev pub leastBelow : List Float → List ℕ → ℕ → ℕ → Float
 leastBelow across labels l i =
-    cond (loneBelow labels l i) nan
+    cond (loneBelow labels l i) (inf true)
     (least (groupSum (distance across (length labels) i) (numbers labels) (length labels) i) (groupCount (numbers labels) (length labels) i) (numbers labels i) l)
 
 -- the lists after the groups below l

@@ -9,12 +9,15 @@ ghost use Rattle.lists.specs.Sums.{zero64, counted};
 ghost use Rattle.refusals.specs.Table.{refusalOf, workDoubles, wiped};
 ghost use Rattle.silhouette.specs.Scores as scoring;
 ghost use Rattle.silhouette.specs.Leaf.{scoreAt, listsFit, silhouettesOf};
-ghost use Rattle.silhouette.specs.Groups.{distance, groupSize, atMembers, settled, Midway, Shape, scoresAcross};
+ghost use Rattle.silhouette.specs.Groups.{distance, groupSize, atMembers, markOf, Midway, Shape, scoresAcross};
 
-// NaN.
-fn no_number() -> f64
-    ensures { λ r. ⌜ r ≡ nan ⌝ }
+// A NaN, or -infinity for a group of one.
+fn mark_of(count: usize) -> f64
+    ensures { λ r. ⌜ r ≡ markOf count ⌝ }
 {
+    if count == 1 {
+        return -1.0 / 0.0;
+    }
     0.0 / 0.0
 }
 
@@ -41,33 +44,26 @@ fn larger(a: f64, b: f64) -> f64
 fn score_of(a: f64, b: f64) -> f64
     ensures { λ r. ⌜ r ≡ scoring.scoreOf a b ⌝ }
 {
+    let zero = 0.0;
     if !stats::is_finite(b) {
-        return 0.0;
+        return zero;
     }
     if both_zero(a, b) {
-        return 0.0;
+        return zero;
     }
     (b - a) / larger(a, b)
 }
 
-// Each cell of the row added to the sum in its place.
-fn add_cells(row: &[f64], sums: &mut [f64])
-    requires { ⌜ length (now row) ≡ length (now sums) ⌝ }
-    ensures { λ _. ⌜ now (sums .exit) ≡ listed (λ i. add binary64 (cells (now (sums .entry)) i) (cells (now (row .entry)) i)) (length (now (sums .entry))) ⌝ }
-{
-    let n = row.len();
-    for i in 0..n {
-        sums[i] = sums[i] + row[i];
-    }
-}
-
-// The same, but for the sum in place j, which is left as it was.
+// Each cell of the row added to the sum in its place, but for the sum in place j, which is left as it was.
 fn add_others(row: &[f64], j: usize, sums: &mut [f64])
     requires { ⌜ (length (now row) ≡ length (now sums)) × (j < length (now sums)) ⌝ }
     ensures { λ _. ⌜ now (sums .exit) ≡ set (listed (λ i. add binary64 (cells (now (sums .entry)) i) (cells (now (row .entry)) i)) (length (now (sums .entry)))) j (cells (now (sums .entry)) j) ⌝ }
 {
     let kept = sums[j];
-    add_cells(row, sums);
+    let n = row.len();
+    for i in 0..n {
+        sums[i] = sums[i] + row[i];
+    }
     sums[j] = kept;
 }
 
@@ -92,67 +88,33 @@ fn add_members(across: &[f64], labels: &[usize], l: usize, sums: &mut [f64]) -> 
     count
 }
 
-// Of the members of group l: the means from their sums, and a NaN in place of the sums.
-fn take_means(labels: &[usize], l: usize, others: f64, sums: &mut [f64], own: &mut [f64])
-    requires { ⌜ (length (now sums) ≡ length (now labels)) × (length (now own) ≡ length (now labels)) ⌝ }
-    ensures { λ _. ⌜ now (own .exit) ≡ listed (atMembers (numbers (now (labels .entry))) l (λ i. div binary64 (cells (now (sums .entry)) i) others) (cells (now (own .entry)))) (length (now (labels .entry))) ⌝ }
-    ensures { λ _. ⌜ now (sums .exit) ≡ listed (atMembers (numbers (now (labels .entry))) l (λ i. nan) (cells (now (sums .entry)))) (length (now (labels .entry))) ⌝ }
+// Of the members of group l, of which there are `count`: the means from their sums, and the mark in place of the sums.
+fn take_means(labels: &[usize], l: usize, count: usize, sums: &mut [f64], own: &mut [f64])
+    requires { ⌜ (0 < count) × (length (now sums) ≡ length (now labels)) × (length (now own) ≡ length (now labels)) ⌝ }
+    ensures { λ _. ⌜ now (own .exit) ≡ listed (atMembers (numbers (now (labels .entry))) l (λ i. div binary64 (cells (now (sums .entry)) i) (counted (count - 1))) (cells (now (own .entry)))) (length (now (labels .entry))) ⌝ }
+    ensures { λ _. ⌜ now (sums .exit) ≡ listed (atMembers (numbers (now (labels .entry))) l (λ i. markOf count) (cells (now (sums .entry)))) (length (now (labels .entry))) ⌝ }
 {
-    let none = no_number();
+    let others = stats::count_as_f64(count - 1);
+    let mark = mark_of(count);
     let m = labels.len();
     for i in 0..m {
         if labels[i] != l {
             continue;
         }
         own[i] = sums[i] / others;
-        sums[i] = none;
+        sums[i] = mark;
     }
 }
 
 // The mean of each sum where it is below what stands in its place.
-fn keep_least(sums: &[f64], count: f64, least: &mut [f64])
+fn keep_least(sums: &[f64], count: usize, least: &mut [f64])
     requires { ⌜ length (now sums) ≡ length (now least) ⌝ }
-    ensures { λ _. ⌜ now (least .exit) ≡ listed (λ i. scoring.lesser (div binary64 (cells (now (sums .entry)) i) count) (cells (now (least .entry)) i)) (length (now (least .entry))) ⌝ }
+    ensures { λ _. ⌜ now (least .exit) ≡ listed (λ i. scoring.lesser (div binary64 (cells (now (sums .entry)) i) (counted count)) (cells (now (least .entry)) i)) (length (now (least .entry))) ⌝ }
 {
+    let c = stats::count_as_f64(count);
     let n = sums.len();
     for i in 0..n {
-        least[i] = lesser(sums[i] / count, least[i]);
-    }
-}
-
-// A NaN in the places of the members of group l.
-fn mark_members(labels: &[usize], l: usize, least: &mut [f64])
-    requires { ⌜ length (now least) ≡ length (now labels) ⌝ }
-    ensures { λ _. ⌜ now (least .exit) ≡ listed (atMembers (numbers (now (labels .entry))) l (λ i. nan) (cells (now (least .entry)))) (length (now (labels .entry))) ⌝ }
-{
-    let none = no_number();
-    let m = labels.len();
-    for i in 0..m {
-        if labels[i] != l {
-            continue;
-        }
-        least[i] = none;
-    }
-}
-
-// The means to the members of group l, of which there are `count`, from the sums: of its members into `own`, of all others
-// into `least` where they are below what stands there. A NaN there marks a lone member.
-fn settle(
-    labels: &[usize],
-    l: usize,
-    count: usize,
-    least: &mut [f64],
-    sums: &mut [f64],
-    own: &mut [f64],
-)
-    requires { ⌜ (0 < count) × (length (now least) ≡ length (now labels)) × (length (now sums) ≡ length (now labels)) × (length (now own) ≡ length (now labels)) ⌝ }
-    ensures { λ _. ⌜ now (own .exit) ≡ listed (atMembers (numbers (now (labels .entry))) l (λ i. div binary64 (cells (now (sums .entry)) i) (counted (count - 1))) (cells (now (own .entry)))) (length (now (labels .entry))) ⌝ }
-    ensures { λ _. ⌜ now (least .exit) ≡ listed (settled (numbers (now (labels .entry))) l count (cells (now (sums .entry))) (cells (now (least .entry)))) (length (now (labels .entry))) ⌝ }
-{
-    take_means(labels, l, stats::count_as_f64(count - 1), sums, own);
-    keep_least(sums, stats::count_as_f64(count), least);
-    if count == 1 {
-        mark_members(labels, l, least);
+        least[i] = lesser(sums[i] / c, least[i]);
     }
 }
 
@@ -174,7 +136,8 @@ fn add_group(
     if count == 0 {
         return;
     }
-    settle(labels, l, count, least, sums, own);
+    take_means(labels, l, count, sums, own);
+    keep_least(sums, count, least);
 }
 
 // Each item's score from its two means, a in `own` and b in `scores`.

@@ -24,13 +24,13 @@ mul-score-of : tie.Need-mul-score-of Inv-loop μ-loop
 mul-score-of c = search needs
 
 shared-slice-read-score-of : tie.Need-shared-slice-read-score-of Inv-loop μ-loop
-shared-slice-read-score-of c = search needs
+shared-slice-read-score-of c = omega arith
 
 mul-score-of-2 : tie.Need-mul-score-of-2 Inv-loop μ-loop
 mul-score-of-2 c = search needs
 
 slice-read-score-of : tie.Need-slice-read-score-of Inv-loop μ-loop
-slice-read-score-of c = search needs
+slice-read-score-of c = omega arith
 
 score-of-requires : tie.Need-score-of-requires Inv-loop μ-loop
 score-of-requires c κs = search needs
@@ -39,13 +39,13 @@ mul-scores : tie.Need-mul-scores Inv-loop μ-loop
 mul-scores c = search needs
 
 slice-write-scores : tie.Need-slice-write-scores Inv-loop μ-loop
-slice-write-scores c = search needs
+slice-write-scores c = omega arith
 
 add-i : tie.Need-add-i Inv-loop μ-loop
-add-i c = search needs
+add-i c = omega arith
 
 loop-less : tie.Need-loop-less Inv-loop μ-loop
-loop-less c = search needs
+loop-less c = omega arith
 
 loop-again : tie.Need-loop-again Inv-loop μ-loop
 loop-again c =
