@@ -5,8 +5,8 @@
 ghost use Prim.Native.Nat.{_≤_};
 ghost use mathlib.Core.Path.{_≡_};
 ghost use lib.ListN.{length};
-use squared::Squared;
 use refusals::Answer;
+use squared::Squared;
 use stats::Average;
 
 // The sizes of a case.

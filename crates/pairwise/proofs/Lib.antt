@@ -1,4 +1,2 @@
--- Laws of the definitions of specs/, one for each step of the code.
-pub mod Flip
-pub mod Steps
-pub mod Regions
+-- Laws of the working list and of the checks.
+pub mod Handed

@@ -1,222 +1,15 @@
-// Distances between the rows of a matrix of m by m points. The work is done in one list of four areas of m by m cells:
-// the points, their transpose, the squared pair distances, and the pair distances.
+// The distances between the rows of a matrix, to a list of the caller's: of plain points, and of the distances of a book
+// that is read through a list of row numbers.
 ghost use mathlib.Core.Path.{_≡_};
-ghost use Prim.Native.Nat.{ℕ, _<_, _≤_, _+_, _*_};
+ghost use Prim.Native.Nat.{_≤_, _*_};
 ghost use lib.ListN.{length};
-ghost use Rattle.sqrt.specs.Root.{root};
-ghost use Rattle.lists.specs.Lists.{listed, cells, cellAt, part, put, grid};
+ghost use Rattle.lists.specs.Lists.{cellAt, part, grid};
 ghost use Rattle.refusals.specs.Table.{refusalOf, refusal, wiped};
-ghost use Rattle.distance.specs.Distance.{Readable, distAt, squaredAt, pairAt};
-ghost use Rattle.pairwise.specs.Pairs.{pairsArea, listsFit, pairwiseDistances, pairwiseDistancesThrough};
-ghost use Rattle.pairwise.specs.Regions.{pointsAt, Area, Turned, Summed, Rooted, Fitting};
-ghost use Rattle.pairwise.specs.Columns.{added, addedFour, Columns, sumsTo};
+ghost use Rattle.distance.specs.Distance.{Readable, distAt, pairAt};
+ghost use Rattle.pairs.specs.Pairs.{pairsArea};
+ghost use Rattle.pairs.specs.Regions.{Area};
+ghost use Rattle.pairwise.specs.Leaves.{listsFit, Fitting, pairwiseDistances, pairwiseDistancesThrough};
 use refusals::Answer;
-
-// Cells that lie `step` apart, copied to one piece further on in the same list. Inner form, as all up to `pairs_in`.
-fn gather(area: &mut [f64], from: usize, step: usize, to: usize, count: usize)
-    requires { ⌜ (to + count ≤ length (now area)) × ((j : ℕ) → j < count → from + j * step < to) ⌝ }
-    ensures { λ _. ⌜ now (area .exit) ≡ put to count (now (area .entry)) (listed (λ j. cells (now (area .entry)) (from + j * step)) count) ⌝ }
-{
-    for j in 0..count {
-        let cell = from + j * step;
-        let at = to + j;
-        area[at] = area[cell];
-    }
-}
-
-// The root of each of `count` cells, further on in the same list.
-fn root_cells(area: &mut [f64], from: usize, to: usize, count: usize)
-    requires { ⌜ (from + count ≤ to) × (to + count ≤ length (now area)) ⌝ }
-    ensures { λ _. ⌜ now (area .exit) ≡ put to count (now (area .entry)) (listed (λ j. root (cells (now (area .entry)) (from + j))) count) ⌝ }
-{
-    for j in 0..count {
-        let cell = from + j;
-        let at = to + j;
-        area[at] = sqrt::sqrt(area[cell]);
-    }
-}
-
-// The transpose of the points, row by row.
-fn transpose(area: &mut [f64], m: usize)
-    requires { ⌜ Area (now area) m ⌝ }
-    ensures { λ _. ⌜ now (area .exit) ≡ put (m * m) (m * m) (now (area .entry)) (grid (λ i j. pointsAt (now (area .entry)) m j i) m) ⌝ }
-{
-    let second = m * m;
-    for i in 0..m {
-        let to = second + i * m;
-        gather(area, i, m, to, m);
-    }
-}
-
-// One column: to each sum the square of x less the column's cell.
-fn add_column(sums: &mut [f64], column: &[f64], x: f64)
-    requires { ⌜ length (now column) ≡ length (now sums) ⌝ }
-    ensures { λ _. ⌜ now (sums .exit) ≡ listed (λ j. added (cells (now (sums .entry)) j) (cells (now (column .entry)) j) x) (length (now (sums .entry))) ⌝ }
-{
-    let m = sums.len();
-    for j in 0..m {
-        let d = x - column[j];
-        sums[j] = sums[j] + d * d;
-    }
-}
-
-// Four columns, one after the other, with one load and one store of each sum.
-fn add_four(
-    sums: &mut [f64],
-    a: &[f64],
-    b: &[f64],
-    c: &[f64],
-    d: &[f64],
-    w: f64,
-    x: f64,
-    y: f64,
-    z: f64,
-)
-    requires { ⌜ (length (now a) ≡ length (now sums)) × (length (now b) ≡ length (now sums)) × (length (now c) ≡ length (now sums)) × (length (now d) ≡ length (now sums)) ⌝ }
-    ensures { λ _. ⌜ now (sums .exit) ≡ listed (λ j. addedFour (cells (now (sums .entry)) j) (cells (now (a .entry)) j) (cells (now (b .entry)) j) (cells (now (c .entry)) j) (cells (now (d .entry)) j) w x y z) (length (now (sums .entry))) ⌝ }
-{
-    let m = sums.len();
-    for j in 0..m {
-        let p = w - a[j];
-        let q = x - b[j];
-        let r = y - c[j];
-        let s = z - d[j];
-        sums[j] = sums[j] + p * p + q * q + r * r + s * s;
-    }
-}
-
-// Columns by fours, from the first; answers how many were added.
-fn add_fours(own: &[f64], across: &[f64], sums: &mut [f64]) -> usize
-    requires { ⌜ Columns (now own) (now across) (now sums) ⌝ }
-    requires { ⌜ now sums ≡ sumsTo (now own) (now across) 0 ⌝ }
-    ensures { λ r. ⌜ (r ≤ length (now (own .entry))) × (now (sums .exit) ≡ sumsTo (now (own .entry)) (now (across .entry)) r) ⌝ }
-{
-    let m = own.len();
-    let mut c = 0;
-    while c + 4 <= m {
-        let c1 = c + 1;
-        let c2 = c + 2;
-        let c3 = c + 3;
-        add_four(
-            sums,
-            lists::row_of(across, m, c),
-            lists::row_of(across, m, c1),
-            lists::row_of(across, m, c2),
-            lists::row_of(across, m, c3),
-            own[c],
-            own[c1],
-            own[c2],
-            own[c3],
-        );
-        c = c + 4;
-    }
-    c
-}
-
-// The columns from the given one on, one by one.
-fn add_rest(own: &[f64], across: &[f64], from: usize, sums: &mut [f64])
-    requires { ⌜ Columns (now own) (now across) (now sums) ⌝ }
-    requires { ⌜ (from ≤ length (now own)) × (now sums ≡ sumsTo (now own) (now across) from) ⌝ }
-    ensures { λ _. ⌜ now (sums .exit) ≡ sumsTo (now (own .entry)) (now (across .entry)) (length (now (own .entry))) ⌝ }
-{
-    let m = own.len();
-    for c in from..m {
-        add_column(sums, lists::row_of(across, m, c), own[c]);
-    }
-}
-
-// The squared distances from the item whose columns are `own` to each item.
-fn squared_row(own: &[f64], across: &[f64], sums: &mut [f64])
-    requires { ⌜ Columns (now own) (now across) (now sums) ⌝ }
-    ensures { λ _. ⌜ now (sums .exit) ≡ sumsTo (now (own .entry)) (now (across .entry)) (length (now (own .entry))) ⌝ }
-{
-    lists::fill(sums, 0.0);
-    let c = add_fours(own, across, sums);
-    add_rest(own, across, c, sums);
-}
-
-// The same of item i of the list.
-fn squared_item(area: &[f64], m: usize, i: usize, sums: &mut [f64])
-    requires { ⌜ Turned (now area) m × (i < m) × (length (now sums) ≡ m) ⌝ }
-    ensures { λ _. ⌜ now (sums .exit) ≡ listed (squaredAt (pointsAt (now (area .entry)) m) m i) m ⌝ }
-{
-    let second = m * m;
-    let third = second + second;
-    squared_row(lists::row_of(area, m, i), &area[second..third], sums);
-}
-
-// Row i of the squared pair distances: worked out in `sums`, since the list is read meanwhile.
-fn square_row(area: &mut [f64], m: usize, i: usize, sums: &mut [f64])
-    requires { ⌜ Turned (now area) m × (i < m) × (length (now sums) ≡ m) ⌝ }
-    ensures { λ _. ⌜ now (area .exit) ≡ put (2 * (m * m) + i * m) m (now (area .entry)) (listed (squaredAt (pointsAt (now (area .entry)) m) m i) m) ⌝ }
-{
-    squared_item(area, m, i, sums);
-    let at = 2 * (m * m) + i * m;
-    let end = at + m;
-    lists::copy(sums, &mut area[at..end]);
-}
-
-// The squared pair distances, row by row.
-fn square_rows(area: &mut [f64], m: usize, sums: &mut [f64])
-    requires { ⌜ Turned (now area) m × (length (now sums) ≡ m) ⌝ }
-    ensures { λ _. ⌜ now (area .exit) ≡ put (2 * (m * m)) (m * m) (now (area .entry)) (grid (squaredAt (pointsAt (now (area .entry)) m) m) m) ⌝ }
-{
-    for i in 0..m {
-        square_row(area, m, i, sums);
-    }
-}
-
-// The same, with a row to work in.
-fn square_all(area: &mut [f64], m: usize)
-    requires { ⌜ Turned (now area) m ⌝ }
-    ensures { λ _. ⌜ now (area .exit) ≡ put (2 * (m * m)) (m * m) (now (area .entry)) (grid (squaredAt (pointsAt (now (area .entry)) m) m) m) ⌝ }
-{
-    let mut sums = lists::row_buffer();
-    square_rows(area, m, &mut sums[..m]);
-}
-
-// Row i of the pair distances: the cells before column i are those of column i in the rows above, the others are roots.
-fn pair_row(area: &mut [f64], m: usize, i: usize)
-    requires { ⌜ Rooted (now area) m i ⌝ }
-    ensures { λ _. ⌜ now (area .exit) ≡ put (3 * (m * m) + i * m) m (now (area .entry)) (listed (pairAt (pointsAt (now (area .entry)) m) m i) m) ⌝ }
-{
-    let third = 2 * (m * m);
-    let fourth = 3 * (m * m);
-    let at = i * m;
-    gather(area, fourth + i, m, fourth + at, i);
-    root_cells(area, third + at + i, fourth + at + i, m - i);
-}
-
-// The pair distances, each pair rooted once.
-fn root_all(area: &mut [f64], m: usize)
-    requires { ⌜ Summed (now area) m ⌝ }
-    ensures { λ _. ⌜ now (area .exit) ≡ put (3 * (m * m)) (m * m) (now (area .entry)) (grid (pairAt (pointsAt (now (area .entry)) m) m) m) ⌝ }
-{
-    for i in 0..m {
-        pair_row(area, m, i);
-    }
-}
-
-// The other three areas, from the points in the first. Inner form.
-pub fn pairs_in(area: &mut [f64], m: usize)
-    requires { ⌜ (0 < m) × (m ≤ 256) × (length (now area) ≡ 4 * (m * m)) ⌝ }
-    ensures { λ _. ⌜ now (area .exit) ≡ pairsArea (cellAt (now (area .entry)) m) m ⌝ }
-{
-    transpose(area, m);
-    square_all(area, m);
-    root_all(area, m);
-}
-
-// The four areas of the distances of the book that the rows make. Inner form, for the rounds.
-pub fn book_pairs(book: &[f64], n: usize, rows: &[usize], area: &mut [f64])
-    requires { ⌜ Readable (now book) n (now rows) × (0 < length (now rows)) × (length (now area) ≡ 4 * (length (now rows) * length (now rows))) ⌝ }
-    ensures { λ _. ⌜ now (area .exit) ≡ pairsArea (distAt (now (book .entry)) n (now (rows .entry))) (length (now (rows .entry))) ⌝ }
-{
-    let m = rows.len();
-    let second = m * m;
-    distance::fill_distances(book, n, rows, &mut area[..second]);
-    pairs_in(area, m);
-}
 
 // The four areas of n by n points. Inner form.
 fn point_pairs(points: &[f64], n: usize, area: &mut [f64])
@@ -225,7 +18,7 @@ fn point_pairs(points: &[f64], n: usize, area: &mut [f64])
 {
     let second = n * n;
     lists::copy(points, &mut area[..second]);
-    pairs_in(area, n);
+    pairs::pairs_in(area, n);
 }
 
 // The fourth area to `out`; the front part of `floats` is left zero. Inner form.
@@ -257,7 +50,7 @@ fn measure_book(book: &[f64], n: usize, rows: &[usize], out: &mut [f64], floats:
 {
     let m = rows.len();
     let end = 4 * (m * m);
-    book_pairs(book, n, rows, &mut floats[..end]);
+    pairs::book_pairs(book, n, rows, &mut floats[..end]);
     hand_out(m, out, floats);
 }
 

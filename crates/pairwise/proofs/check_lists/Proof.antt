@@ -1,7 +1,7 @@
 use mathlib.Core.Path.{_∙_}
 use borrow.Author.Needs.{needs}
 use Rattle.refusals.proofs.Laws.{fits-asked}
-use Rattle.pairwise.specs.Pairs.{listsFit}
+use Rattle.pairwise.specs.Leaves.{listsFit}
 use Rattle.pairwise.proofs.check_lists.Statement.{statement}
 use Rattle.pairwise.proofs.check_lists.Tie as tie
 

@@ -7,7 +7,7 @@ use lib.Seq.{length-take-le}
 use lib.Ieee.{Float}
 use borrow.Author.Needs.{needs}
 use Rattle.distance.specs.Distance.{distAt}
-use Rattle.pairwise.proofs.Regions.{fourth-area, wiped-same}
+use Rattle.pairwise.proofs.Handed.{fourth-area, wiped-same}
 use Rattle.pairwise.proofs.measure_book.Statement.{statement}
 use Rattle.pairwise.proofs.measure_book.Tie as tie
 

@@ -1,8 +1,8 @@
 use mathlib.Core.Path.{_∙_, sym}
 use borrow.Author.Needs.{needs}
 use Rattle.refusals.proofs.Laws.{accepted, not-worked, passed, was-worked}
-use Rattle.pairwise.specs.Pairs.{pairwiseDistances}
-use Rattle.pairwise.proofs.Regions.{fitting}
+use Rattle.pairwise.specs.Leaves.{pairwiseDistances}
+use Rattle.pairwise.proofs.Handed.{fitting}
 use Rattle.pairwise.proofs.pairwise_distances.Statement.{statement}
 use Rattle.pairwise.proofs.pairwise_distances.Tie as tie
 

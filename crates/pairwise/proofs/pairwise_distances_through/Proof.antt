@@ -5,8 +5,8 @@ use Rattle.refusals.specs.Table.{refusal, refusalOf}
 use Rattle.lists.specs.Lists.{firstFrom}
 use Rattle.distance.proofs.Laws.{readable}
 use Rattle.refusals.proofs.Laws.{accepted, not-worked, passed, was-worked}
-use Rattle.pairwise.specs.Pairs.{listsFit, pairwiseDistancesThrough}
-use Rattle.pairwise.proofs.Regions.{fitting}
+use Rattle.pairwise.specs.Leaves.{listsFit, pairwiseDistancesThrough}
+use Rattle.pairwise.proofs.Handed.{fitting}
 use Rattle.pairwise.proofs.pairwise_distances_through.Statement.{statement}
 use Rattle.pairwise.proofs.pairwise_distances_through.Tie as tie
 

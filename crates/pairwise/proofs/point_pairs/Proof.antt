@@ -7,8 +7,8 @@ use lib.Seq.{length-take-le}
 use lib.Ieee.{Float}
 use borrow.Author.Needs.{needs}
 use Rattle.lists.specs.Lists.{cellAt}
-use Rattle.pairwise.specs.Pairs.{pairsArea}
-use Rattle.pairwise.proofs.Regions.{pairs-begin}
+use Rattle.pairs.specs.Pairs.{pairsArea}
+use Rattle.pairs.proofs.Regions.{pairs-begin}
 use Rattle.pairwise.proofs.point_pairs.Statement.{statement}
 use Rattle.pairwise.proofs.point_pairs.Tie as tie
 

@@ -1,0 +1,2 @@
+-- Squared distances from one item to all, column by column.
+pub mod Columns

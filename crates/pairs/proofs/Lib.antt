@@ -1,0 +1,2 @@
+-- Laws of the four areas.
+pub mod Regions
