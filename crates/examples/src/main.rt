@@ -2,14 +2,14 @@
 // Standard input has one word a line, 16 hex digits. A case is eight words (leaf, n or ddof, the lengths of the two input
 // lists, of the output and of the working list, two items), the two lists, then the expected number, place, count of
 // values and values. harness/vectors.py writes the cases from definitions of its own.
-ghost use Prim.Native.Nat.{_≤_};
+ghost use Prim.Native.Nat.{_+_, _≤_};
 ghost use mathlib.Core.Path.{_≡_};
 ghost use lib.ListN.{length};
 use refusals::Answer;
 use squared::Squared;
 use stats::Average;
 
-// The sizes of a case.
+// The sizes of a case, and the word at which its expected answer starts.
 struct Case {
     leaf: u64,
     n: usize,
@@ -19,6 +19,7 @@ struct Case {
     floats: usize,
     i: usize,
     j: usize,
+    expected: usize,
 }
 
 // What a leaf answered: the table's number and place, and how many values; a single value beside them.
@@ -29,6 +30,7 @@ struct Outcome {
     value: f64,
 }
 
+// Each list comes from a function that promises its length alone: a literal array would stand in every goal, cell by cell.
 fn buffer() -> [f64; 64]
     ensures { λ r. ⌜ 64 ≡ length r ⌝ }
 {
@@ -53,6 +55,12 @@ fn many() -> [f64; 65537]
     [0.5; 65537]
 }
 
+fn text_buffer() -> [u8; 262144]
+    ensures { λ r. ⌜ 262144 ≡ length r ⌝ }
+{
+    [0; 262144]
+}
+
 fn hex_digit(b: u8) -> u64
     ensures { λ r. ⌜ r ≤ 15 ⌝ }
 {
@@ -71,31 +79,56 @@ fn hex_digit(b: u8) -> u64
     0
 }
 
-// Word k of the text; 0 past its end.
-fn word(text: &[u8], k: usize) -> u64 {
-    if k > 100000 {
-        return 0;
-    }
-    let at = k * 17;
-    if at + 16 > text.len() {
-        return 0;
-    }
+// A value with one digit more at its end; of seventeen digits the first is lost.
+fn with_digit(value: u64, digit: u64) -> u64
+    requires { ⌜ digit ≤ 15 ⌝ }
+{
+    value % 0x1000_0000_0000_0000 * 16 + digit
+}
+
+// The value of hex digits.
+fn hex_value(digits: &[u8]) -> u64 {
     let mut value: u64 = 0;
-    for i in 0..16usize {
-        value = value % 0x1000_0000_0000_0000 * 16 + hex_digit(text[at + i]);
+    let n = digits.len();
+    for i in 0..n {
+        value = with_digit(value, hex_digit(digits[i]));
     }
     value
 }
 
-// Word k as a size of at most `most`.
-fn size_at(text: &[u8], k: usize, most: usize) -> usize
+// Word k of the text, of the first 200001; 0 past its end.
+fn word(text: &[u8], k: usize) -> u64 {
+    if k > 200000 {
+        return 0;
+    }
+    let at = k * 17;
+    let end = at + 16;
+    if end > text.len() {
+        return 0;
+    }
+    hex_value(&text[at..end])
+}
+
+// The word i places after the one at `at`; 0 where one of the two is above 100000.
+fn word_from(text: &[u8], at: usize, i: usize) -> u64 {
+    if at > 100000 {
+        return 0;
+    }
+    if i > 100000 {
+        return 0;
+    }
+    word(text, at + i)
+}
+
+// The same word as a size of at most `most`.
+fn size_from(text: &[u8], at: usize, i: usize, most: usize) -> usize
     ensures { λ r. ⌜ r ≤ most ⌝ }
 {
-    let value = word(text, k);
-    if value > most as u64 {
+    let value = word_from(text, at, i) as usize;
+    if value > most {
         return most;
     }
-    value as usize
+    value
 }
 
 // The double of a pattern; every NaN pattern is one NaN.
@@ -113,37 +146,26 @@ fn bits_of(x: f64) -> u64 {
     f64::to_bits(x)
 }
 
-fn read_doubles(text: &[u8], at: usize, out: &mut [f64])
-    requires { ⌜ at ≤ 100000 ⌝ }
-{
+fn read_doubles(text: &[u8], at: usize, out: &mut [f64]) {
     let n = out.len();
     for i in 0..n {
         out[i] = double_of(word_from(text, at, i));
     }
 }
 
-fn read_numbers(text: &[u8], at: usize, out: &mut [usize])
-    requires { ⌜ at ≤ 100000 ⌝ }
-{
+fn read_numbers(text: &[u8], at: usize, out: &mut [usize]) {
     let n = out.len();
     for i in 0..n {
         out[i] = word_from(text, at, i) as usize;
     }
 }
 
-fn word_from(text: &[u8], at: usize, i: usize) -> u64
-    requires { ⌜ at ≤ 100000 ⌝ }
-{
-    if i > 100000 {
-        return 0;
+// Whether the list has the patterns that the text has three words after `expected`.
+fn same_list(text: &[u8], expected: usize, xs: &[f64]) -> bool {
+    if expected > 100000 {
+        return false;
     }
-    word(text, at + i)
-}
-
-// Whether the list has the patterns that the text has from `at` on.
-fn same_list(text: &[u8], at: usize, xs: &[f64]) -> bool
-    requires { ⌜ at ≤ 100000 ⌝ }
-{
+    let at = expected + 3;
     let n = xs.len();
     for i in 0..n {
         if bits_of(xs[i]) != word_from(text, at, i) {
@@ -153,12 +175,19 @@ fn same_list(text: &[u8], at: usize, xs: &[f64]) -> bool
     true
 }
 
+// What a working list has at i after a call that leaves its front zero: +0 there, and 7.0, as it was lent, behind.
+fn left_at(i: usize, front: usize) -> u64 {
+    if i < front {
+        return 0;
+    }
+    0x401c_0000_0000_0000
+}
+
 // Whether the front of a working list is +0 and the rest as it was lent.
 fn left_right(floats: &[f64], front: usize) -> bool {
     let n = floats.len();
     for i in 0..n {
-        let expected = if i < front { 0 } else { 0x401c_0000_0000_0000 };
-        if bits_of(floats[i]) != expected {
+        if bits_of(floats[i]) != left_at(i, front) {
             return false;
         }
     }
@@ -259,187 +288,245 @@ fn call_list(
     }
 }
 
-// Leaf 15: averages of n values of 0.5, of which there may be one too many.
+// Leaf 15: averages of values of 0.5, of which there may be one too many.
+fn call_average(which: usize, values: &[f64]) -> Outcome {
+    match which {
+        0 => of_average(stats::mean(values)),
+        1 => of_average(stats::variance(values, 0)),
+        2 => of_average(stats::std_dev(values, 0)),
+        3 => of_average(tstat::tstat(values)),
+        _ => of_average(tstat::mean_of(values)),
+    }
+}
+
 fn call_many(which: usize, n: usize) -> Outcome {
-    let values = many();
     if n > 65537 {
         return one_value(0.0);
     }
-    match which {
-        0 => of_average(stats::mean(&values[..n])),
-        1 => of_average(stats::variance(&values[..n], 0)),
-        2 => of_average(stats::std_dev(&values[..n], 0)),
-        3 => of_average(tstat::tstat(&values[..n])),
-        _ => of_average(tstat::mean_of(&values[..n])),
-    }
+    let values = many();
+    call_average(which, &values[..n])
 }
 
-fn text_buffer() -> [u8; 262144]
-    ensures { λ r. ⌜ 262144 ≡ length r ⌝ }
-{
-    [0; 262144]
-}
-
+// The case at `at`: eight words, and the expected answer after its two lists.
 fn read_case(text: &[u8], at: usize) -> Case
     requires { ⌜ at ≤ 20000 ⌝ }
-    ensures { λ r. ⌜ (r .a ≤ 64) × (r .b ≤ 64) × (r .out ≤ 64) × (r .floats ≤ 4096) ⌝ }
+    ensures { λ r. ⌜ (r .a ≤ 64) × (r .b ≤ 64) × (r .out ≤ 64) × (r .floats ≤ 4096) × (at + 8 ≤ r .expected) × (r .expected ≤ 20136) ⌝ }
 {
+    let a = size_from(text, at, 2, 64);
+    let b = size_from(text, at, 3, 64);
     Case {
-        leaf: word(text, at),
-        n: word(text, at + 1) as usize,
-        a: size_at(text, at + 2, 64),
-        b: size_at(text, at + 3, 64),
-        out: size_at(text, at + 4, 64),
-        floats: size_at(text, at + 5, 4096),
-        i: word(text, at + 6) as usize,
-        j: word(text, at + 7) as usize,
+        leaf: word_from(text, at, 0),
+        n: word_from(text, at, 1) as usize,
+        a,
+        b,
+        out: size_from(text, at, 4, 64),
+        floats: size_from(text, at, 5, 4096),
+        i: word_from(text, at, 6) as usize,
+        j: word_from(text, at, 7) as usize,
+        expected: at + 8 + a + b,
     }
 }
 
-// Whether the answer is the one that the text has from `at` on: its number, place, count of values, and the single value.
-fn same_answer(text: &[u8], at: usize, o: Outcome) -> bool
-    requires { ⌜ at ≤ 30000 ⌝ }
+// Where the case after one starts whose expected answer stands at `expected`.
+fn after(text: &[u8], expected: usize) -> usize
+    requires { ⌜ expected ≤ 20136 ⌝ }
+    ensures { λ r. ⌜ (expected ≤ r) × (r ≤ 20203) ⌝ }
 {
-    if o.number != word(text, at) {
-        return false;
-    }
-    if o.place != word(text, at + 1) {
-        return false;
-    }
-    o.count == word(text, at + 2)
+    expected + 3 + size_from(text, expected, 2, 64)
 }
 
-fn same_value(text: &[u8], at: usize, o: Outcome) -> bool
-    requires { ⌜ at ≤ 30000 ⌝ }
-{
+// Whether the text has this number, place and count of values at `expected`.
+fn same_answer(text: &[u8], expected: usize, o: Outcome) -> bool {
+    if o.number != word_from(text, expected, 0) {
+        return false;
+    }
+    if o.place != word_from(text, expected, 1) {
+        return false;
+    }
+    o.count == word_from(text, expected, 2)
+}
+
+// Whether the single value, where there is one, is the one that the text has.
+fn same_value(text: &[u8], expected: usize, o: Outcome) -> bool {
     if o.count == 0 {
         return true;
     }
-    bits_of(o.value) == word(text, at + 3)
+    bits_of(o.value) == word_from(text, expected, 3)
 }
 
-// The front of a working list that a call over m names leaves zero, by the number that it answered.
-fn front_of(number: u64, m: usize) -> usize {
-    if number != 0 {
-        return 0;
-    }
+// The front of a working list that a call over m names leaves zero.
+fn front(m: usize) -> usize {
     if m > 256 {
         return 0;
     }
     8 * (m * m) + 256 * m
 }
 
+// The same for a leaf, by the number that it answered: a refused call leaves the list as it was, and leaves 8 to 10 have none.
+fn front_of(c: Case, number: u64) -> usize {
+    if number != 0 {
+        return 0;
+    }
+    if c.leaf < 11 {
+        return 0;
+    }
+    if c.leaf == 12 {
+        return front(c.b);
+    }
+    front(c.n)
+}
+
 // Runs a leaf that fills a list, and compares the answer, the output list and the working list.
-fn right_list(text: &[u8], at: usize, c: Case, a: &[f64], rows: &[usize], expected: usize) -> bool
-    requires { ⌜ (at ≤ 20000) × (expected ≤ 30000) × (c .out ≤ 64) × (c .floats ≤ 4096) ⌝ }
-{
-    let mut out = buffer();
-    let mut floats = working_list();
-    let n_out = c.out;
-    let n_floats = c.floats;
-    let o = call_list(
-        c.leaf,
-        c.n,
-        a,
-        rows,
-        &mut out[..n_out],
-        &mut floats[..n_floats],
-    );
-    let m = if c.leaf == 12 { rows.len() } else { c.n };
-    let front = if c.leaf < 11 {
-        0
-    } else {
-        front_of(o.number, m)
-    };
-    if !same_answer(text, expected, o) {
+fn right_list(
+    text: &[u8],
+    c: Case,
+    a: &[f64],
+    rows: &[usize],
+    out: &mut [f64],
+    floats: &mut [f64],
+) -> bool {
+    let o = call_list(c.leaf, c.n, a, rows, out, floats);
+    if !same_answer(text, c.expected, o) {
         return false;
     }
-    if !left_right(&floats, front) {
+    if !left_right(floats, front_of(c, o.number)) {
         return false;
     }
-    same_list(text, expected + 3, &out[..n_out])
+    same_list(text, c.expected, out)
+}
+
+// Leaves 1 to 7, 14 and 15.
+fn call_one(c: Case, a: &[f64], b: &[f64], rows: &[usize]) -> Outcome {
+    if c.leaf == 14 {
+        return of_squared(squared::squared_distance_through(a, c.n, rows, c.i, c.j));
+    }
+    if c.leaf == 15 {
+        return call_many(c.i, c.n);
+    }
+    call_value(c.leaf, c.n, a, b)
 }
 
 // Runs a leaf that answers one value or none.
-fn right_value(text: &[u8], c: Case, a: &[f64], b: &[f64], rows: &[usize], expected: usize) -> bool
-    requires { ⌜ expected ≤ 30000 ⌝ }
-{
-    let o = if c.leaf == 14 {
-        of_squared(squared::squared_distance_through(a, c.n, rows, c.i, c.j))
-    } else if c.leaf == 15 {
-        call_many(c.i, c.n)
-    } else {
-        call_value(c.leaf, c.n, a, b)
-    };
-    if !same_answer(text, expected, o) {
+fn right_value(text: &[u8], c: Case, a: &[f64], b: &[f64], rows: &[usize]) -> bool {
+    let o = call_one(c, a, b, rows);
+    if !same_answer(text, c.expected, o) {
         return false;
     }
-    same_value(text, expected, o)
+    same_value(text, c.expected, o)
 }
 
-// Reads the case's lists and runs it.
+// Runs a case whose lists are read.
+fn right_read(
+    text: &[u8],
+    c: Case,
+    a: &[f64],
+    b: &[f64],
+    rows: &[usize],
+    out: &mut [f64],
+    floats: &mut [f64],
+) -> bool {
+    if c.leaf < 8 {
+        return right_value(text, c, a, b, rows);
+    }
+    if c.leaf > 13 {
+        return right_value(text, c, a, b, rows);
+    }
+    right_list(text, c, a, rows, out, floats)
+}
+
+// Reads the case's lists, the second both as doubles and as numbers, and runs it.
+fn right_lists(
+    text: &[u8],
+    c: Case,
+    at: usize,
+    a: &mut [f64],
+    b: &mut [f64],
+    rows: &mut [usize],
+    out: &mut [f64],
+    floats: &mut [f64],
+) -> bool
+    requires { ⌜ (at ≤ 20000) × (c .a ≤ 64) ⌝ }
+{
+    let first = at + 8;
+    let second = first + c.a;
+    read_doubles(text, first, a);
+    read_doubles(text, second, b);
+    read_numbers(text, second, rows);
+    right_read(text, c, a, b, rows, out, floats)
+}
+
+// Runs the case at `at` on lists of its sizes.
 fn right_case(text: &[u8], at: usize, c: Case) -> bool
-    requires { ⌜ (at ≤ 20000) × ((c .a ≤ 64) × (c .b ≤ 64) × (c .out ≤ 64) × (c .floats ≤ 4096)) ⌝ }
+    requires { ⌜ (at ≤ 20000) × (c .a ≤ 64) × (c .b ≤ 64) × (c .out ≤ 64) × (c .floats ≤ 4096) ⌝ }
 {
     let mut a = buffer();
     let mut b = buffer();
     let mut rows = number_buffer();
+    let mut out = buffer();
+    let mut floats = working_list();
     let n_a = c.a;
     let n_b = c.b;
-    let at_a = at + 8;
-    let at_b = at_a + n_a;
-    let expected = at_b + n_b;
-    read_doubles(text, at_a, &mut a[..n_a]);
-    read_doubles(text, at_b, &mut b[..n_b]);
-    read_numbers(text, at_b, &mut rows[..n_b]);
-    if c.leaf < 8 {
-        return right_value(text, c, &a[..n_a], &b[..n_b], &rows[..n_b], expected);
-    }
-    if c.leaf > 13 {
-        return right_value(text, c, &a[..n_a], &b[..n_b], &rows[..n_b], expected);
-    }
-    right_list(text, at, c, &a[..n_a], &rows[..n_b], expected)
-}
-
-// The words of a case.
-fn words_of(text: &[u8], at: usize, c: Case) -> usize
-    requires { ⌜ (at ≤ 20000) × ((c .a ≤ 64) × (c .b ≤ 64) × (c .out ≤ 64) × (c .floats ≤ 4096)) ⌝ }
-    ensures { λ r. ⌜ (11 ≤ r) × (r ≤ 300) ⌝ }
-{
-    let lists = 8 + c.a + c.b;
-    lists + 3 + size_at(text, at + lists + 2, 64)
+    let n_out = c.out;
+    let n_floats = c.floats;
+    right_lists(
+        text,
+        c,
+        at,
+        &mut a[..n_a],
+        &mut b[..n_b],
+        &mut rows[..n_b],
+        &mut out[..n_out],
+        &mut floats[..n_floats],
+    )
 }
 
 fn print(text: &[u8]) {
     io::write_all(1, text);
 }
 
-// How many cases ran, and how many of them differed; each that differs is named by its place and leaf.
-fn run(text: &[u8]) {
+// Names a case that differs by its place and leaf.
+fn report(at: usize, leaf: u64) {
+    print(b"differs: case at word ");
+    io::print_decimal(1, at as u64);
+    print(b", leaf ");
+    io::print_decimal(1, leaf);
+    print(b"\n");
+}
+
+// 1 where the case at `at` differs, which it then reports, and 0 elsewhere.
+fn differs(text: &[u8], at: usize, c: Case) -> u64
+    requires { ⌜ (at ≤ 20000) × (c .a ≤ 64) × (c .b ≤ 64) × (c .out ≤ 64) × (c .floats ≤ 4096) ⌝ }
+    ensures { λ r. ⌜ r ≤ 1 ⌝ }
+{
+    if right_case(text, at, c) {
+        return 0;
+    }
+    report(at, c.leaf);
+    1
+}
+
+// How many cases ran, and how many of them differed.
+fn summary(cases: u64, differ: u64) {
+    io::print_decimal(1, cases);
+    print(b" cases, ");
+    io::print_decimal(1, differ);
+    print(b" differ\n");
+}
+
+fn run(text: &[u8])
+    requires { ⌜ length (now text) ≤ 262144 ⌝ }
+{
     let words = text.len() / 17;
     let mut at = 0;
     let mut cases: u64 = 0;
     let mut differ: u64 = 0;
     while at < words {
-        if at > 20000 {
-            break;
-        }
         let c = read_case(text, at);
-        cases += 1;
-        if !right_case(text, at, c) {
-            differ += 1;
-            print(b"differs: case at word ");
-            io::print_decimal(1, at as u64);
-            print(b", leaf ");
-            io::print_decimal(1, c.leaf);
-            print(b"\n");
-        }
-        at = at + words_of(text, at, c);
+        differ = differ + differs(text, at, c);
+        cases = cases + 1;
+        at = after(text, c.expected);
     }
-    io::print_decimal(1, cases);
-    print(b" cases, ");
-    io::print_decimal(1, differ);
-    print(b" differ\n");
+    summary(cases, differ);
 }
 
 fn main() {
