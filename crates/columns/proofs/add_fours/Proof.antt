@@ -23,16 +23,16 @@ loop-holds c =
     (refl, search needs, s .pre .0 .sums-length, s .pre .1)
 
 add-loop : tie.Need-add-loop Inv-loop μ-loop
-add-loop c = search needs
+add-loop c = omega arith
 
 add-c1 : tie.Need-add-c1 Inv-loop μ-loop
-add-c1 c = search needs
+add-c1 c = omega arith
 
 add-c2 : tie.Need-add-c2 Inv-loop μ-loop
-add-c2 c = search needs
+add-c2 c = omega arith
 
 add-c3 : tie.Need-add-c3 Inv-loop μ-loop
-add-c3 c = search needs
+add-c3 c = omega arith
 
 row-of-requires : tie.Need-row-of-requires Inv-loop μ-loop
 row-of-requires c κs = let p = c .before .before .before .before .before .before .pre .0 in (p .few, omega (arith, p .square), omega arith)
@@ -47,28 +47,28 @@ row-of-requires-4 : tie.Need-row-of-requires-4 Inv-loop μ-loop
 row-of-requires-4 c κs = let p = c .before .before .before .before .before .before .before .before .before .pre .0 in (p .few, omega (arith, p .square), omega arith)
 
 mul-add-four : tie.Need-mul-add-four Inv-loop μ-loop
-mul-add-four c = search needs
+mul-add-four c = omega arith
 
 shared-slice-read-add-four : tie.Need-shared-slice-read-add-four Inv-loop μ-loop
-shared-slice-read-add-four c = search needs
+shared-slice-read-add-four c = omega arith
 
 mul-add-four-2 : tie.Need-mul-add-four-2 Inv-loop μ-loop
-mul-add-four-2 c = search needs
+mul-add-four-2 c = omega arith
 
 shared-slice-read-add-four-2 : tie.Need-shared-slice-read-add-four-2 Inv-loop μ-loop
-shared-slice-read-add-four-2 c = search needs
+shared-slice-read-add-four-2 c = omega arith
 
 mul-add-four-3 : tie.Need-mul-add-four-3 Inv-loop μ-loop
-mul-add-four-3 c = search needs
+mul-add-four-3 c = omega arith
 
 shared-slice-read-add-four-3 : tie.Need-shared-slice-read-add-four-3 Inv-loop μ-loop
-shared-slice-read-add-four-3 c = search needs
+shared-slice-read-add-four-3 c = omega arith
 
 mul-add-four-4 : tie.Need-mul-add-four-4 Inv-loop μ-loop
-mul-add-four-4 c = search needs
+mul-add-four-4 c = omega arith
 
 shared-slice-read-add-four-4 : tie.Need-shared-slice-read-add-four-4 Inv-loop μ-loop
-shared-slice-read-add-four-4 c = search needs
+shared-slice-read-add-four-4 c = omega arith
 
 add-four-requires : tie.Need-add-four-requires Inv-loop μ-loop
 add-four-requires c κs =
@@ -84,10 +84,10 @@ add-four-requires c κs =
     )
 
 add-c : tie.Need-add-c Inv-loop μ-loop
-add-c c = search needs
+add-c c = omega arith
 
 loop-less : tie.Need-loop-less Inv-loop μ-loop
-loop-less c = search needs
+loop-less c = omega arith
 
 loop-again : tie.Need-loop-again Inv-loop μ-loop
 loop-again c =

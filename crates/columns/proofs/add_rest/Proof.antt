@@ -25,10 +25,10 @@ row-of-requires : tie.Need-row-of-requires Inv-loop μ-loop
 row-of-requires c κs = let p = c .before .before .before .before .before .before .pre .0 in (p .few, omega (arith, p .square), omega arith)
 
 mul-add-column : tie.Need-mul-add-column Inv-loop μ-loop
-mul-add-column c = search needs
+mul-add-column c = omega arith
 
 shared-slice-read-add-column : tie.Need-shared-slice-read-add-column Inv-loop μ-loop
-shared-slice-read-add-column c = search needs
+shared-slice-read-add-column c = omega arith
 
 add-column-requires : tie.Need-add-column-requires Inv-loop μ-loop
 add-column-requires c κs =
@@ -37,10 +37,10 @@ add-column-requires c κs =
     rw (c .before .row-of .ensures) (row-long (s .args .across .now) (length (s .args .own .now)) (l .c) (omega (arith, s .pre .0 .square)) (omega arith) ∙ sym (l .inv .2))
 
 add-c : tie.Need-add-c Inv-loop μ-loop
-add-c c = search needs
+add-c c = omega arith
 
 loop-less : tie.Need-loop-less Inv-loop μ-loop
-loop-less c = search needs
+loop-less c = omega arith
 
 loop-again : tie.Need-loop-again Inv-loop μ-loop
 loop-again c =

@@ -20,16 +20,16 @@ small : (c : tie.Start) → length (c .args .book .now) ≤ 65536
 small c = omega (arith, square-small (c .args .n) (c .pre .0 .few), c .pre .0 .square)
 
 mul-r : tie.Need-mul-r
-mul-r c = search needs
+mul-r c = omega arith
 
 shared-slice-read-r : tie.Need-shared-slice-read-r
-shared-slice-read-r c = search needs
+shared-slice-read-r c = omega arith
 
 mul-s : tie.Need-mul-s
-mul-s c = search needs
+mul-s c = omega arith
 
 shared-slice-read-s : tie.Need-shared-slice-read-s
-shared-slice-read-s c = search needs
+shared-slice-read-s c = omega arith
 
 mul-at : tie.Need-mul-at
 mul-at c = omega (arith, within (c .before .before), small (c .before .before))

@@ -21,25 +21,25 @@ unfolding writes
 loop-holds c = (refl, search needs, c .before .before .pre, refl)
 
 mul-distance : tie.Need-mul-distance Inv-loop μ-loop
-mul-distance c = search needs
+mul-distance c = omega arith
 
 shared-slice-read-distance : tie.Need-shared-slice-read-distance Inv-loop μ-loop
-shared-slice-read-distance c = search needs
+shared-slice-read-distance c = omega arith
 
 distance-requires : tie.Need-distance-requires Inv-loop μ-loop
 distance-requires c κs = search needs
 
 mul-out : tie.Need-mul-out Inv-loop μ-loop
-mul-out c = search needs
+mul-out c = omega arith
 
 slice-write-out : tie.Need-slice-write-out Inv-loop μ-loop
-slice-write-out c = search needs
+slice-write-out c = omega arith
 
 add-t : tie.Need-add-t Inv-loop μ-loop
-add-t c = search needs
+add-t c = omega arith
 
 loop-less : tie.Need-loop-less Inv-loop μ-loop
-loop-less c = search needs
+loop-less c = omega arith
 
 loop-again : tie.Need-loop-again Inv-loop μ-loop
 loop-again c = (search needs, search needs, simp length-set (search needs), ap (set (c .before .before .before .loop .out) (c .before .before .before .loop .t)) (c .distance .ensures) ∙ writes-more _ _ _ (c .before .before .before .loop .inv .3))

@@ -34,7 +34,7 @@ mul-cell-row : tie.Need-mul-cell-row Inv-loop μ-loop
 mul-cell-row c = omega (arith, small c)
 
 sub-cell-row : tie.Need-sub-cell-row Inv-loop μ-loop
-sub-cell-row c = search needs
+sub-cell-row c = omega arith
 
 part-cell-row-start : tie.Need-part-cell-row-start Inv-loop μ-loop
 part-cell-row-start c = search needs
@@ -48,10 +48,10 @@ cell-row-requires c κs =
     (c .before .before .before .before .before .before .pre .0, c .before .loop-test .taken, rw k (row-long (c .before .before .loop .out) (length (c .before .before .before .before .before .before .args .rows .now)) (c .before .before .loop .i) (omega (arith, c .before .before .loop .inv .2)) (c .before .loop-test .taken)))
 
 add-i : tie.Need-add-i Inv-loop μ-loop
-add-i c = search needs
+add-i c = omega arith
 
 loop-less : tie.Need-loop-less Inv-loop μ-loop
-loop-less c = search needs
+loop-less c = omega arith
 
 loop-again : tie.Need-loop-again Inv-loop μ-loop
 loop-again c =

@@ -34,7 +34,7 @@ mul-distance-row : tie.Need-mul-distance-row Inv-loop μ-loop
 mul-distance-row c = omega (arith, small c)
 
 sub-distance-row : tie.Need-sub-distance-row Inv-loop μ-loop
-sub-distance-row c = search needs
+sub-distance-row c = omega arith
 
 part-distance-row-start : tie.Need-part-distance-row-start Inv-loop μ-loop
 part-distance-row-start c = search needs
@@ -48,10 +48,10 @@ distance-row-requires c κs =
     (c .before .before .before .before .before .before .pre .0, c .before .loop-test .taken, rw k (row-long (c .before .before .loop .out) (length (c .before .before .before .before .before .before .args .rows .now)) (c .before .before .loop .i) (omega (arith, c .before .before .loop .inv .2)) (c .before .loop-test .taken)))
 
 add-i : tie.Need-add-i Inv-loop μ-loop
-add-i c = search needs
+add-i c = omega arith
 
 loop-less : tie.Need-loop-less Inv-loop μ-loop
-loop-less c = search needs
+loop-less c = omega arith
 
 loop-again : tie.Need-loop-again Inv-loop μ-loop
 loop-again c =

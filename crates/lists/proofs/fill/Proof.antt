@@ -20,16 +20,16 @@ unfolding writes
 loop-holds c = (refl, search needs, refl, refl)
 
 mul-xs : tie.Need-mul-xs Inv-loop μ-loop
-mul-xs c = search needs
+mul-xs c = omega arith
 
 slice-write-xs : tie.Need-slice-write-xs Inv-loop μ-loop
-slice-write-xs c = search needs
+slice-write-xs c = omega arith
 
 add-i : tie.Need-add-i Inv-loop μ-loop
-add-i c = search needs
+add-i c = omega arith
 
 loop-less : tie.Need-loop-less Inv-loop μ-loop
-loop-less c = search needs
+loop-less c = omega arith
 
 loop-again : tie.Need-loop-again Inv-loop μ-loop
 loop-again c = (search needs, search needs, simp length-set (search needs), writes-more _ _ _ (c .before .loop .inv .3))

@@ -24,20 +24,20 @@ unfolding firstTo
 loop-holds c = (refl, search needs, refl)
 
 mul-if1 : tie.Need-mul-if1 Inv-loop μ-loop
-mul-if1 c = search needs
+mul-if1 c = omega arith
 
 shared-slice-read-if1 : tie.Need-shared-slice-read-if1 Inv-loop μ-loop
-shared-slice-read-if1 c = search needs
+shared-slice-read-if1 c = omega arith
 
 returns : tie.Need-returns Inv-loop μ-loop
 unfolding firstFrom
 returns c = first-found _ _ _ (c .before .before .before .loop .inv .2) (le-leb _ _ (c .if1 .taken)) (search needs)
 
 add-k : tie.Need-add-k Inv-loop μ-loop
-add-k c = search needs
+add-k c = omega arith
 
 loop-less : tie.Need-loop-less Inv-loop μ-loop
-loop-less c = search needs
+loop-less c = omega arith
 
 loop-again : tie.Need-loop-again Inv-loop μ-loop
 loop-again c = (search needs, search needs, first-more _ _ (c .before .before .before .loop .inv .2) (lt-leb _ _ (c .if1 .left)))

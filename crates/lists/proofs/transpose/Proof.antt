@@ -30,7 +30,7 @@ mul-copy-column : tie.Need-mul-copy-column Inv-loop μ-loop
 mul-copy-column c = omega (arith, row-small (c .before .loop .i) (c .before .before .before .before .args .n) (c .loop-test .taken) (c .before .before .before .before .pre .1))
 
 sub-copy-column : tie.Need-sub-copy-column Inv-loop μ-loop
-sub-copy-column c = search needs
+sub-copy-column c = omega arith
 
 part-copy-column-start : tie.Need-part-copy-column-start Inv-loop μ-loop
 part-copy-column-start c = search needs
@@ -44,10 +44,10 @@ copy-column-requires c κs =
     (c .before .before .before .before .before .pre .1, c .before .before .before .before .before .pre .2, c .before .loop-test .taken, ap length e ∙ row-length (c .before .before .loop .out) (c .before .before .loop .i) (c .before .before .before .before .before .args .n) (c .before .before .loop .inv .1) (c .before .loop-test .taken))
 
 add-i : tie.Need-add-i Inv-loop μ-loop
-add-i c = search needs
+add-i c = omega arith
 
 loop-less : tie.Need-loop-less Inv-loop μ-loop
-loop-less c = search needs
+loop-less c = omega arith
 
 loop-again : tie.Need-loop-again Inv-loop μ-loop
 loop-again c =

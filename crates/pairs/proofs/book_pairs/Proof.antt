@@ -12,7 +12,7 @@ use Rattle.pairs.proofs.book_pairs.Statement.{statement}
 use Rattle.pairs.proofs.book_pairs.Tie as tie
 
 mul-second : tie.Need-mul-second
-mul-second c = search needs
+mul-second c = omega arith
 
 slice-relend-prefix-fill-distances : tie.Need-slice-relend-prefix-fill-distances
 slice-relend-prefix-fill-distances c = search needs

@@ -27,7 +27,7 @@ add-cell : tie.Need-add-cell Inv-loop μ-loop
 add-cell c = omega (arith, c .before .before .pre .1 (c .before .loop .j) (c .loop-test .taken))
 
 add-at : tie.Need-add-at Inv-loop μ-loop
-add-at c = search needs
+add-at c = omega arith
 
 mul-area : tie.Need-mul-area Inv-loop μ-loop
 mul-area c = omega (arith, c .before .before .pre .1 (c .before .loop .j) (c .loop-test .taken))
@@ -36,16 +36,16 @@ slice-read-area : tie.Need-slice-read-area Inv-loop μ-loop
 slice-read-area c = omega (arith, c .before .before .before .pre .1 (c .before .before .loop .j) (c .before .loop-test .taken))
 
 mul-area-2 : tie.Need-mul-area-2 Inv-loop μ-loop
-mul-area-2 c = search needs
+mul-area-2 c = omega arith
 
 slice-write-area : tie.Need-slice-write-area Inv-loop μ-loop
-slice-write-area c = search needs
+slice-write-area c = omega arith
 
 add-j : tie.Need-add-j Inv-loop μ-loop
-add-j c = search needs
+add-j c = omega arith
 
 loop-less : tie.Need-loop-less Inv-loop μ-loop
-loop-less c = search needs
+loop-less c = omega arith
 
 loop-again : tie.Need-loop-again Inv-loop μ-loop
 loop-again c =

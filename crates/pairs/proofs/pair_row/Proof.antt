@@ -8,22 +8,22 @@ use Rattle.pairs.proofs.pair_row.Statement.{statement}
 use Rattle.pairs.proofs.pair_row.Tie as tie
 
 mul-third : tie.Need-mul-third
-mul-third c = search needs
+mul-third c = omega arith
 
 mul-third-2 : tie.Need-mul-third-2
-mul-third-2 c = search needs
+mul-third-2 c = omega arith
 
 mul-fourth : tie.Need-mul-fourth
-mul-fourth c = search needs
+mul-fourth c = omega arith
 
 mul-fourth-2 : tie.Need-mul-fourth-2
-mul-fourth-2 c = search needs
+mul-fourth-2 c = omega arith
 
 mul-at : tie.Need-mul-at
 mul-at c = omega (arith, row-small (c .before .args .i) (c .before .args .m) (c .before .pre .within) (c .before .pre .summed .four .few))
 
 add-gather : tie.Need-add-gather
-add-gather c = search needs
+add-gather c = omega arith
 
 add-gather-2 : tie.Need-add-gather-2
 add-gather-2 c = omega (arith, row-small (c .before .before .args .i) (c .before .before .args .m) (c .before .before .pre .within) (c .before .before .pre .summed .four .few), square-small (c .before .before .args .m) (c .before .before .pre .summed .four .few))
@@ -44,7 +44,7 @@ add-root-cells-4 : tie.Need-add-root-cells-4
 add-root-cells-4 c = omega (arith, row-small (c .before .before .before .before .before .before .args .i) (c .before .before .before .before .before .before .args .m) (c .before .before .before .before .before .before .pre .within) (c .before .before .before .before .before .before .pre .summed .four .few), square-small (c .before .before .before .before .before .before .args .m) (c .before .before .before .before .before .before .pre .summed .four .few))
 
 sub-root-cells : tie.Need-sub-root-cells
-sub-root-cells c = search needs
+sub-root-cells c = omega arith
 
 root-cells-requires : tie.Need-root-cells-requires
 root-cells-requires c κs =

@@ -24,10 +24,10 @@ pair-row-requires : tie.Need-pair-row-requires Inv-loop μ-loop
 pair-row-requires c κs = rooted-rows (c .before .before .before .before .args .area .now) (c .before .before .before .before .args .m) (c .before .before .loop .i) (c .before .before .before .before .pre) (c .before .loop-test .taken) (c .before .before .loop .inv .2)
 
 add-i : tie.Need-add-i Inv-loop μ-loop
-add-i c = search needs
+add-i c = omega arith
 
 loop-less : tie.Need-loop-less Inv-loop μ-loop
-loop-less c = search needs
+loop-less c = omega arith
 
 loop-again : tie.Need-loop-again Inv-loop μ-loop
 loop-again c =

@@ -22,31 +22,31 @@ unfolding stores
 loop-holds c = (search needs, refl, refl)
 
 add-cell : tie.Need-add-cell Inv-loop μ-loop
-add-cell c = search needs
+add-cell c = omega arith
 
 add-at : tie.Need-add-at Inv-loop μ-loop
-add-at c = search needs
+add-at c = omega arith
 
 mul-sqrt : tie.Need-mul-sqrt Inv-loop μ-loop
-mul-sqrt c = search needs
+mul-sqrt c = omega arith
 
 slice-read-sqrt : tie.Need-slice-read-sqrt Inv-loop μ-loop
-slice-read-sqrt c = search needs
+slice-read-sqrt c = omega arith
 
 sqrt-requires : tie.Need-sqrt-requires Inv-loop μ-loop
 sqrt-requires c κs = search needs
 
 mul-area : tie.Need-mul-area Inv-loop μ-loop
-mul-area c = search needs
+mul-area c = omega arith
 
 slice-write-area : tie.Need-slice-write-area Inv-loop μ-loop
-slice-write-area c = search needs
+slice-write-area c = omega arith
 
 add-j : tie.Need-add-j Inv-loop μ-loop
-add-j c = search needs
+add-j c = omega arith
 
 loop-less : tie.Need-loop-less Inv-loop μ-loop
-loop-less c = search needs
+loop-less c = omega arith
 
 loop-again : tie.Need-loop-again Inv-loop μ-loop
 loop-again c =

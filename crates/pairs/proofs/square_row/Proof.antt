@@ -13,10 +13,10 @@ squared-item-requires : tie.Need-squared-item-requires
 squared-item-requires c κs = search needs
 
 mul-at : tie.Need-mul-at
-mul-at c = search needs
+mul-at c = omega arith
 
 mul-at-2 : tie.Need-mul-at-2
-mul-at-2 c = search needs
+mul-at-2 c = omega arith
 
 mul-at-3 : tie.Need-mul-at-3
 mul-at-3 c = omega (arith, row-small (c .before .before .before .before .before .before .before .args .i) (c .before .before .before .before .before .before .before .args .m) (c .before .before .before .before .before .before .before .pre .1) (c .before .before .before .before .before .before .before .pre .0 .four .few))
@@ -31,7 +31,7 @@ mul-copy : tie.Need-mul-copy
 mul-copy c = omega (arith, row-small (c .before .before .before .before .before .before .before .before .args .i) (c .before .before .before .before .before .before .before .before .args .m) (c .before .before .before .before .before .before .before .before .pre .1) (c .before .before .before .before .before .before .before .before .pre .0 .four .few), square-small (c .before .before .before .before .before .before .before .before .args .m) (c .before .before .before .before .before .before .before .before .pre .0 .four .few))
 
 sub-copy : tie.Need-sub-copy
-sub-copy c = search needs
+sub-copy c = omega arith
 
 part-copy-start : tie.Need-part-copy-start
 part-copy-start c = search needs

@@ -24,10 +24,10 @@ square-row-requires : tie.Need-square-row-requires Inv-loop μ-loop
 square-row-requires c κs = (turned-rows (c .before .before .before .before .before .before .args .area .now) (c .before .before .before .before .before .before .args .m) (c .before .before .before .loop .i) (squaredAt (pointsAt (c .before .before .before .before .before .before .args .area .now) (c .before .before .before .before .before .before .args .m)) (c .before .before .before .before .before .before .args .m)) (c .before .before .before .before .before .before .pre .0) (c .before .before .before .loop .inv .0) (c .before .before .before .loop .inv .3), c .before .before .loop-test .taken, c .before .before .before .loop .inv .1)
 
 add-i : tie.Need-add-i Inv-loop μ-loop
-add-i c = search needs
+add-i c = omega arith
 
 loop-less : tie.Need-loop-less Inv-loop μ-loop
-loop-less c = search needs
+loop-less c = omega arith
 
 loop-again : tie.Need-loop-again Inv-loop μ-loop
 loop-again c =

@@ -1,3 +1,4 @@
+use native.Mathlib.Omega.{arith}
 use mathlib.Core.Path.{_∙_}
 use borrow.Author.Needs.{needs}
 use Rattle.pairs.proofs.Regions.{columns, squared-item-is}
@@ -5,19 +6,19 @@ use Rattle.pairs.proofs.squared_item.Statement.{statement}
 use Rattle.pairs.proofs.squared_item.Tie as tie
 
 mul-second : tie.Need-mul-second
-mul-second c = search needs
+mul-second c = omega arith
 
 add-third : tie.Need-add-third
-add-third c = search needs
+add-third c = omega arith
 
 row-of-requires : tie.Need-row-of-requires
 row-of-requires c κs = search needs
 
 mul-squared-row : tie.Need-mul-squared-row
-mul-squared-row c = search needs
+mul-squared-row c = omega arith
 
 sub-squared-row : tie.Need-sub-squared-row
-sub-squared-row c = search needs
+sub-squared-row c = omega arith
 
 part-squared-row-start : tie.Need-part-squared-row-start
 part-squared-row-start c = search needs

@@ -36,10 +36,10 @@ gather-requires : tie.Need-gather-requires Inv-loop μ-loop
 gather-requires c κs = (omega (arith, row-end (c .before .before .loop .i) (c .before .before .before .before .args .m) (c .before .loop-test .taken), c .before .before .before .before .pre .size), λ j l. omega (arith, cell-below j (c .before .before .loop .i) (c .before .before .before .before .args .m) l (c .before .loop-test .taken)))
 
 add-i : tie.Need-add-i Inv-loop μ-loop
-add-i c = search needs
+add-i c = omega arith
 
 loop-less : tie.Need-loop-less Inv-loop μ-loop
-loop-less c = search needs
+loop-less c = omega arith
 
 loop-again : tie.Need-loop-again Inv-loop μ-loop
 loop-again c =

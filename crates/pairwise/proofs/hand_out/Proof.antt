@@ -13,22 +13,22 @@ use Rattle.pairwise.proofs.hand_out.Statement.{statement}
 use Rattle.pairwise.proofs.hand_out.Tie as tie
 
 mul-pairs : tie.Need-mul-pairs
-mul-pairs c = search needs
+mul-pairs c = omega arith
 
 mul-pairs-2 : tie.Need-mul-pairs-2
-mul-pairs-2 c = search needs
+mul-pairs-2 c = omega arith
 
 mul-end : tie.Need-mul-end
-mul-end c = search needs
+mul-end c = omega arith
 
 add-end : tie.Need-add-end
-add-end c = search needs
+add-end c = omega arith
 
 mul-copy : tie.Need-mul-copy
-mul-copy c = search needs
+mul-copy c = omega arith
 
 sub-copy : tie.Need-sub-copy
-sub-copy c = search needs
+sub-copy c = omega arith
 
 part-copy-start : tie.Need-part-copy-start
 part-copy-start c = search needs
@@ -40,16 +40,16 @@ copy-requires : tie.Need-copy-requires
 copy-requires c κs = search needs
 
 mul-work : tie.Need-mul-work
-mul-work c = search needs
+mul-work c = omega arith
 
 mul-work-2 : tie.Need-mul-work-2
-mul-work-2 c = search needs
+mul-work-2 c = omega arith
 
 mul-work-3 : tie.Need-mul-work-3
-mul-work-3 c = search needs
+mul-work-3 c = omega arith
 
 add-work : tie.Need-add-work
-add-work c = search needs
+add-work c = omega arith
 
 slice-relend-prefix-fill : tie.Need-slice-relend-prefix-fill
 slice-relend-prefix-fill c = search needs

@@ -12,10 +12,10 @@ use Rattle.pairwise.proofs.measure_points.Statement.{statement}
 use Rattle.pairwise.proofs.measure_points.Tie as tie
 
 mul-end : tie.Need-mul-end
-mul-end c = search needs
+mul-end c = omega arith
 
 mul-end-2 : tie.Need-mul-end-2
-mul-end-2 c = search needs
+mul-end-2 c = omega arith
 
 slice-relend-prefix-point-pairs : tie.Need-slice-relend-prefix-point-pairs
 slice-relend-prefix-point-pairs c = search needs

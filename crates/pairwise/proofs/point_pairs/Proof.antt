@@ -13,7 +13,7 @@ use Rattle.pairwise.proofs.point_pairs.Statement.{statement}
 use Rattle.pairwise.proofs.point_pairs.Tie as tie
 
 mul-second : tie.Need-mul-second
-mul-second c = search needs
+mul-second c = omega arith
 
 slice-relend-prefix-copy : tie.Need-slice-relend-prefix-copy
 slice-relend-prefix-copy c = search needs

@@ -1,3 +1,4 @@
+use native.Mathlib.Omega.{arith}
 use mathlib.Core.Path.{_∙_}
 use borrow.Author.Needs.{needs}
 use Rattle.refusals.proofs.Laws.{many-rows}
@@ -17,7 +18,7 @@ first-bad-requires : tie.Need-first-bad-requires
 first-bad-requires c κs = search needs
 
 add-check : tie.Need-add-check
-add-check c = search needs
+add-check c = omega arith
 
 check-requires-2 : tie.Need-check-requires-2
 check-requires-2 c κs = search needs

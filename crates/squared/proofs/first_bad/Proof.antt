@@ -1,3 +1,4 @@
+use native.Mathlib.Omega.{arith}
 use borrow.Author.Tests.{le-leb, le-ltb, lt-leb, lt-ltb}
 use borrow.Author.Needs.{needs}
 use Rattle.squared.specs.Leaves.{firstBad}
@@ -13,14 +14,14 @@ unfolding firstBad
 returns-2 c = rw (le-ltb _ _ (c .before .if1 .left), le-leb _ _ (c .if2 .taken))
 
 add-result : tie.Need-add-result
-add-result c = search needs
+add-result c = omega arith
 
 returns-3 : tie.Need-returns-3
 unfolding firstBad
 returns-3 c = rw (le-ltb _ _ (c .before .before .if1 .left), lt-leb _ _ (c .before .if2 .left), le-leb _ _ (c .if3 .taken))
 
 add-result-2 : tie.Need-add-result-2
-add-result-2 c = search needs
+add-result-2 c = omega arith
 
 returns-4 : tie.Need-returns-4
 unfolding firstBad

@@ -26,10 +26,10 @@ unfolding allTo
 loop-holds c = (refl, search needs, refl)
 
 mul-same-bits : tie.Need-mul-same-bits Inv-loop μ-loop
-mul-same-bits c = search needs
+mul-same-bits c = omega arith
 
 shared-slice-read-same-bits : tie.Need-shared-slice-read-same-bits Inv-loop μ-loop
-shared-slice-read-same-bits c = search needs
+shared-slice-read-same-bits c = omega arith
 
 same-bits-requires : tie.Need-same-bits-requires Inv-loop μ-loop
 same-bits-requires c κs = search needs
@@ -38,10 +38,10 @@ returns : tie.Need-returns Inv-loop μ-loop
 returns c = all-fails _ _ (c .before .before .before .before .loop .i) (search needs) (sym (c .before .same-bits .ensures) ∙ c .if1 .left)
 
 add-i : tie.Need-add-i Inv-loop μ-loop
-add-i c = search needs
+add-i c = omega arith
 
 loop-less : tie.Need-loop-less Inv-loop μ-loop
-loop-less c = search needs
+loop-less c = omega arith
 
 loop-again : tie.Need-loop-again Inv-loop μ-loop
 loop-again c = (search needs, search needs, all-more _ _ (c .before .before .before .before .loop .inv .2) (sym (c .before .same-bits .ensures) ∙ c .if1 .taken))

@@ -1,3 +1,4 @@
+use native.Mathlib.Omega.{arith}
 use mathlib.Core.Path.{sym, _∙_}
 use Rattle.stats.specs.Average.{constant}
 use borrow.Author.Needs.{needs}
@@ -9,7 +10,7 @@ use Rattle.stats.proofs.all_same.Reads as all-same-reads
 use Rattle.stats.proofs.is_finite.Reads as is-finite-reads
 
 shared-slice-read-first : tie.Need-shared-slice-read-first
-shared-slice-read-first c = search needs
+shared-slice-read-first c = omega arith
 
 is-finite-requires : tie.Need-is-finite-requires
 is-finite-requires c κs = search needs

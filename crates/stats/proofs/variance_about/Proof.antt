@@ -1,3 +1,4 @@
+use native.Mathlib.Omega.{arith}
 use borrow.Author.Needs.{needs}
 use Rattle.stats.specs.Average.{varianceAbout}
 use Rattle.stats.proofs.variance_about.Statement.{statement}
@@ -7,7 +8,7 @@ sum-of-squares-requires : tie.Need-sum-of-squares-requires
 sum-of-squares-requires c κs = search needs
 
 sub-count-as-f64 : tie.Need-sub-count-as-f64
-sub-count-as-f64 c = search needs
+sub-count-as-f64 c = omega arith
 
 count-as-f64-requires : tie.Need-count-as-f64-requires
 count-as-f64-requires c κs = search needs
