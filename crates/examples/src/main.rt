@@ -61,29 +61,19 @@ fn text_buffer() -> [u8; 262144]
     [0; 262144]
 }
 
+// The value of a digit, 0 to 9 or a to f.
 fn hex_digit(b: u8) -> u64
     ensures { λ r. ⌜ r ≤ 15 ⌝ }
 {
-    if b < b'0' {
-        return 0;
-    }
-    if b <= b'9' {
-        return (b - b'0') as u64;
-    }
     if b < b'a' {
-        return 0;
+        return (b % 16) as u64;
     }
-    if b <= b'f' {
-        return (b - b'a') as u64 + 10;
-    }
-    0
+    ((b % 16 + 9) % 16) as u64
 }
 
 // A value with one digit more at its end; of seventeen digits the first is lost.
-fn with_digit(value: u64, digit: u64) -> u64
-    requires { ⌜ digit ≤ 15 ⌝ }
-{
-    value % 0x1000_0000_0000_0000 * 16 + digit
+fn with_digit(value: u64, b: u8) -> u64 {
+    value % 0x1000_0000_0000_0000 * 16 + hex_digit(b)
 }
 
 // The value of hex digits.
@@ -91,7 +81,7 @@ fn hex_value(digits: &[u8]) -> u64 {
     let mut value: u64 = 0;
     let n = digits.len();
     for i in 0..n {
-        value = with_digit(value, hex_digit(digits[i]));
+        value = with_digit(value, digits[i]);
     }
     value
 }
@@ -146,18 +136,27 @@ fn bits_of(x: f64) -> u64 {
     f64::to_bits(x)
 }
 
-fn read_doubles(text: &[u8], at: usize, out: &mut [f64]) {
-    let n = out.len();
+// n words from `at` on, as doubles and as numbers.
+fn doubles_at(text: &[u8], at: usize, n: usize) -> [f64; 64]
+    requires { ⌜ n ≤ 64 ⌝ }
+    ensures { λ r. ⌜ 64 ≡ length r ⌝ }
+{
+    let mut xs = buffer();
     for i in 0..n {
-        out[i] = double_of(word_from(text, at, i));
+        xs[i] = double_of(word_from(text, at, i));
     }
+    xs
 }
 
-fn read_numbers(text: &[u8], at: usize, out: &mut [usize]) {
-    let n = out.len();
+fn numbers_at(text: &[u8], at: usize, n: usize) -> [usize; 64]
+    requires { ⌜ n ≤ 64 ⌝ }
+    ensures { λ r. ⌜ 64 ≡ length r ⌝ }
+{
+    let mut xs = number_buffer();
     for i in 0..n {
-        out[i] = word_from(text, at, i) as usize;
+        xs[i] = word_from(text, at, i) as usize;
     }
+    xs
 }
 
 // Whether the list has the patterns that the text has three words after `expected`.
@@ -242,17 +241,26 @@ fn one_value(x: f64) -> Outcome {
     }
 }
 
+// Leaves 2 to 6.
+fn average(leaf: u64, ddof: usize, a: &[f64]) -> Average {
+    match leaf {
+        2 => stats::mean(a),
+        3 => stats::variance(a, ddof),
+        4 => stats::std_dev(a, ddof),
+        5 => tstat::tstat(a),
+        _ => tstat::mean_of(a),
+    }
+}
+
 // Leaves 1 to 7: they answer one value, or none.
 fn call_value(leaf: u64, ddof: usize, a: &[f64], b: &[f64]) -> Outcome {
-    match leaf {
-        1 => root_of(a),
-        2 => of_average(stats::mean(a)),
-        3 => of_average(stats::variance(a, ddof)),
-        4 => of_average(stats::std_dev(a, ddof)),
-        5 => of_average(tstat::tstat(a)),
-        6 => of_average(tstat::mean_of(a)),
-        _ => one_value(squared::squared_distance(a, b)),
+    if leaf == 1 {
+        return root_of(a);
     }
+    if leaf == 7 {
+        return one_value(squared::squared_distance(a, b));
+    }
+    of_average(average(leaf, ddof, a))
 }
 
 fn root_of(a: &[f64]) -> Outcome {
@@ -262,7 +270,35 @@ fn root_of(a: &[f64]) -> Outcome {
     one_value(sqrt::sqrt(a[0]))
 }
 
-// Leaves 8 to 13: they fill a list.
+// Leaves 8 to 10: they fill a list.
+fn call_plain(leaf: u64, n: usize, a: &[f64], rows: &[usize], out: &mut [f64]) -> Answer {
+    if leaf == 8 {
+        return distance::corr_to_distance(a, n, out);
+    }
+    if leaf == 9 {
+        return distance::corr_to_distance_through(a, n, rows, out);
+    }
+    distance::submatrix(a, n, rows, out)
+}
+
+// Leaves 11 to 13: they fill a list by the help of a working list.
+fn call_working(
+    leaf: u64,
+    n: usize,
+    a: &[f64],
+    rows: &[usize],
+    out: &mut [f64],
+    floats: &mut [f64],
+) -> Answer {
+    if leaf == 11 {
+        return pairwise::pairwise_distances(a, n, out, floats);
+    }
+    if leaf == 12 {
+        return pairwise::pairwise_distances_through(a, n, rows, out, floats);
+    }
+    silhouette::silhouette_from_pairwise(a, n, rows, out, floats)
+}
+
 fn call_list(
     leaf: u64,
     n: usize,
@@ -270,41 +306,23 @@ fn call_list(
     rows: &[usize],
     out: &mut [f64],
     floats: &mut [f64],
-) -> Outcome {
-    let count = out.len() as u64;
-    match leaf {
-        8 => of_answer(distance::corr_to_distance(a, n, out), count),
-        9 => of_answer(distance::corr_to_distance_through(a, n, rows, out), count),
-        10 => of_answer(distance::submatrix(a, n, rows, out), count),
-        11 => of_answer(pairwise::pairwise_distances(a, n, out, floats), count),
-        12 => of_answer(
-            pairwise::pairwise_distances_through(a, n, rows, out, floats),
-            count,
-        ),
-        _ => of_answer(
-            silhouette::silhouette_from_pairwise(a, n, rows, out, floats),
-            count,
-        ),
+) -> Answer {
+    if leaf < 11 {
+        return call_plain(leaf, n, a, rows, out);
     }
+    call_working(leaf, n, a, rows, out, floats)
 }
 
-// Leaf 15: averages of values of 0.5, of which there may be one too many.
-fn call_average(which: usize, values: &[f64]) -> Outcome {
-    match which {
-        0 => of_average(stats::mean(values)),
-        1 => of_average(stats::variance(values, 0)),
-        2 => of_average(stats::std_dev(values, 0)),
-        3 => of_average(tstat::tstat(values)),
-        _ => of_average(tstat::mean_of(values)),
-    }
-}
-
+// Leaf 15: leaves 2 to 6, with ddof 0, over n values of 0.5, of which there may be one too many.
 fn call_many(which: usize, n: usize) -> Outcome {
+    if which > 4 {
+        return one_value(0.0);
+    }
     if n > 65537 {
         return one_value(0.0);
     }
     let values = many();
-    call_average(which, &values[..n])
+    of_average(average(which as u64 + 2, 0, &values[..n]))
 }
 
 // The case at `at`: eight words, and the expected answer after its two lists.
@@ -376,8 +394,20 @@ fn front_of(c: Case, number: u64) -> usize {
     front(c.n)
 }
 
-// Runs a leaf that fills a list, and compares the answer, the output list and the working list.
-fn right_list(
+// Whether a leaf's answer, its output list and the working list are as expected.
+fn same_lists(text: &[u8], c: Case, answer: Answer, out: &[f64], floats: &[f64]) -> bool {
+    let o = of_answer(answer, c.out as u64);
+    if !same_answer(text, c.expected, o) {
+        return false;
+    }
+    if !same_list(text, c.expected, out) {
+        return false;
+    }
+    left_right(floats, front_of(c, o.number))
+}
+
+// Runs a leaf that fills a list, and compares what it left.
+fn right_lists(
     text: &[u8],
     c: Case,
     a: &[f64],
@@ -385,14 +415,19 @@ fn right_list(
     out: &mut [f64],
     floats: &mut [f64],
 ) -> bool {
-    let o = call_list(c.leaf, c.n, a, rows, out, floats);
-    if !same_answer(text, c.expected, o) {
-        return false;
-    }
-    if !left_right(floats, front_of(c, o.number)) {
-        return false;
-    }
-    same_list(text, c.expected, out)
+    let answer = call_list(c.leaf, c.n, a, rows, out, floats);
+    same_lists(text, c, answer, out, floats)
+}
+
+// The same, on lists of the case's sizes.
+fn right_list(text: &[u8], c: Case, a: &[f64], rows: &[usize]) -> bool
+    requires { ⌜ (c .out ≤ 64) × (c .floats ≤ 4096) ⌝ }
+{
+    let mut out = buffer();
+    let mut floats = working_list();
+    let n_out = c.out;
+    let n_floats = c.floats;
+    right_lists(text, c, a, rows, &mut out[..n_out], &mut floats[..n_floats])
 }
 
 // Leaves 1 to 7, 14 and 15.
@@ -416,81 +451,46 @@ fn right_value(text: &[u8], c: Case, a: &[f64], b: &[f64], rows: &[usize]) -> bo
 }
 
 // Runs a case whose lists are read.
-fn right_read(
-    text: &[u8],
-    c: Case,
-    a: &[f64],
-    b: &[f64],
-    rows: &[usize],
-    out: &mut [f64],
-    floats: &mut [f64],
-) -> bool {
+fn right_read(text: &[u8], c: Case, a: &[f64], b: &[f64], rows: &[usize]) -> bool
+    requires { ⌜ (c .out ≤ 64) × (c .floats ≤ 4096) ⌝ }
+{
     if c.leaf < 8 {
         return right_value(text, c, a, b, rows);
     }
     if c.leaf > 13 {
         return right_value(text, c, a, b, rows);
     }
-    right_list(text, c, a, rows, out, floats)
+    right_list(text, c, a, rows)
 }
 
 // Reads the case's lists, the second both as doubles and as numbers, and runs it.
-fn right_lists(
-    text: &[u8],
-    c: Case,
-    at: usize,
-    a: &mut [f64],
-    b: &mut [f64],
-    rows: &mut [usize],
-    out: &mut [f64],
-    floats: &mut [f64],
-) -> bool
-    requires { ⌜ (at ≤ 20000) × (c .a ≤ 64) ⌝ }
-{
-    let first = at + 8;
-    let second = first + c.a;
-    read_doubles(text, first, a);
-    read_doubles(text, second, b);
-    read_numbers(text, second, rows);
-    right_read(text, c, a, b, rows, out, floats)
-}
-
-// Runs the case at `at` on lists of its sizes.
 fn right_case(text: &[u8], at: usize, c: Case) -> bool
     requires { ⌜ (at ≤ 20000) × (c .a ≤ 64) × (c .b ≤ 64) × (c .out ≤ 64) × (c .floats ≤ 4096) ⌝ }
 {
-    let mut a = buffer();
-    let mut b = buffer();
-    let mut rows = number_buffer();
-    let mut out = buffer();
-    let mut floats = working_list();
     let n_a = c.a;
     let n_b = c.b;
-    let n_out = c.out;
-    let n_floats = c.floats;
-    right_lists(
-        text,
-        c,
-        at,
-        &mut a[..n_a],
-        &mut b[..n_b],
-        &mut rows[..n_b],
-        &mut out[..n_out],
-        &mut floats[..n_floats],
-    )
+    let first = at + 8;
+    let second = first + n_a;
+    let a = doubles_at(text, first, n_a);
+    let b = doubles_at(text, second, n_b);
+    let rows = numbers_at(text, second, n_b);
+    right_read(text, c, &a[..n_a], &b[..n_b], &rows[..n_b])
 }
 
 fn print(text: &[u8]) {
     io::write_all(1, text);
 }
 
+fn print_number(n: u64, after: &[u8]) {
+    io::print_decimal(1, n);
+    print(after);
+}
+
 // Names a case that differs by its place and leaf.
 fn report(at: usize, leaf: u64) {
     print(b"differs: case at word ");
-    io::print_decimal(1, at as u64);
-    print(b", leaf ");
-    io::print_decimal(1, leaf);
-    print(b"\n");
+    print_number(at as u64, b", leaf ");
+    print_number(leaf, b"\n");
 }
 
 // 1 where the case at `at` differs, which it then reports, and 0 elsewhere.
@@ -505,12 +505,10 @@ fn differs(text: &[u8], at: usize, c: Case) -> u64
     1
 }
 
-// How many cases ran, and how many of them differed.
+// Prints how many cases ran, and how many of them differed.
 fn summary(cases: u64, differ: u64) {
-    io::print_decimal(1, cases);
-    print(b" cases, ");
-    io::print_decimal(1, differ);
-    print(b" differ\n");
+    print_number(cases, b" cases, ");
+    print_number(differ, b" differ\n");
 }
 
 fn run(text: &[u8])

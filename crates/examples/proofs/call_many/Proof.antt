@@ -11,20 +11,32 @@ one-value-requires c κs = search needs
 returns : tie.Need-returns
 returns c = search needs
 
+one-value-requires-2 : tie.Need-one-value-requires-2
+one-value-requires-2 c κs = search needs
+
+returns-2 : tie.Need-returns-2
+returns-2 c = search needs
+
 many-requires : tie.Need-many-requires
 many-requires c κs = search needs
+
+add-average : tie.Need-add-average
+add-average c = search needs
 
 array-share-prefix-values : tie.Need-array-share-prefix-values
 array-share-prefix-values c = search needs
 
-slice-aggregate-call-average : tie.Need-slice-aggregate-call-average
-slice-aggregate-call-average c = sym (length-take-le _ _ (omega (arith, c .before .many .ensures, c .before .before .if1 .left)))
+slice-aggregate-average : tie.Need-slice-aggregate-average
+slice-aggregate-average c = sym (length-take-le _ _ (omega (arith, c .before .many .ensures, c .before .before .if2 .left)))
 
-call-average-requires : tie.Need-call-average-requires
-call-average-requires c κs = search needs
+average-requires : tie.Need-average-requires
+average-requires c κs = search needs
 
-returns-2 : tie.Need-returns-2
-returns-2 c = search needs
+of-average-requires : tie.Need-of-average-requires
+of-average-requires c κs = search needs
+
+returns-3 : tie.Need-returns-3
+returns-3 c = search needs
 
 pub call-many-spec : {M : Type 1} → statement M
 call-many-spec =
@@ -32,8 +44,12 @@ call-many-spec =
     (tie.spec
     one-value-requires
     returns
+    one-value-requires-2
+    returns-2
     many-requires
+    add-average
     array-share-prefix-values
-    slice-aggregate-call-average
-    call-average-requires
-    returns-2)
+    slice-aggregate-average
+    average-requires
+    of-average-requires
+    returns-3)

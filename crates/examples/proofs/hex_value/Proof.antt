@@ -15,11 +15,16 @@ abbrev μ-loop : tie.MeasureT-loop
 loop-holds : tie.Need-loop-holds Inv-loop μ-loop
 loop-holds c = search needs
 
+<<<<<<< HEAD
 shared-slice-read-hex-digit : tie.Need-shared-slice-read-hex-digit Inv-loop μ-loop
 shared-slice-read-hex-digit c = omega arith
 
 hex-digit-requires : tie.Need-hex-digit-requires Inv-loop μ-loop
 hex-digit-requires c κs = search needs
+=======
+shared-slice-read-with-digit : tie.Need-shared-slice-read-with-digit Inv-loop μ-loop
+shared-slice-read-with-digit c = search needs
+>>>>>>> a7c47690b0f7cb1c808dad30dc6001d36c83a50e
 
 with-digit-requires : tie.Need-with-digit-requires Inv-loop μ-loop
 with-digit-requires c κs = search needs
@@ -43,8 +48,7 @@ hex-value-spec =
     Inv-loop
     μ-loop
     loop-holds
-    shared-slice-read-hex-digit
-    hex-digit-requires
+    shared-slice-read-with-digit
     with-digit-requires
     add-i
     loop-less

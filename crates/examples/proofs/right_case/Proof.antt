@@ -5,53 +5,41 @@ use borrow.Author.Needs.{needs}
 use Rattle.examples.proofs.right_case.Statement.{statement}
 use Rattle.examples.proofs.right_case.Tie as tie
 
-buffer-requires : tie.Need-buffer-requires
-buffer-requires c κs = search needs
+add-first : tie.Need-add-first
+add-first c = search needs
 
-buffer-requires-2 : tie.Need-buffer-requires-2
-buffer-requires-2 c κs = search needs
+add-second : tie.Need-add-second
+add-second c = search needs
 
-number-buffer-requires : tie.Need-number-buffer-requires
-number-buffer-requires c κs = search needs
+doubles-at-requires : tie.Need-doubles-at-requires
+doubles-at-requires c κs = search needs
 
-buffer-requires-3 : tie.Need-buffer-requires-3
-buffer-requires-3 c κs = search needs
+doubles-at-requires-2 : tie.Need-doubles-at-requires-2
+doubles-at-requires-2 c κs = search needs
 
-working-list-requires : tie.Need-working-list-requires
-working-list-requires c κs = search needs
+numbers-at-requires : tie.Need-numbers-at-requires
+numbers-at-requires c κs = search needs
 
-array-borrow-prefix-a : tie.Need-array-borrow-prefix-a
-array-borrow-prefix-a c = search needs
+array-share-prefix-a : tie.Need-array-share-prefix-a
+array-share-prefix-a c = search needs
 
-slice-aggregate-right-lists : tie.Need-slice-aggregate-right-lists
-slice-aggregate-right-lists c = sym (length-take-le _ _ (omega (arith, c .before .before .before .before .before .buffer .ensures, c .before .before .before .before .before .before .before .pre .1)))
+slice-aggregate-right-read : tie.Need-slice-aggregate-right-read
+slice-aggregate-right-read c = sym (length-take-le _ _ (omega (arith, c .before .before .before .doubles-at .ensures, c .before .before .before .before .before .pre .1)))
 
-array-borrow-prefix-b : tie.Need-array-borrow-prefix-b
-array-borrow-prefix-b c = search needs
+array-share-prefix-b : tie.Need-array-share-prefix-b
+array-share-prefix-b c = search needs
 
-slice-aggregate-right-lists-2 : tie.Need-slice-aggregate-right-lists-2
-slice-aggregate-right-lists-2 c = sym (length-take-le _ _ (omega (arith, c .before .before .before .before .before .buffer2 .ensures, c .before .before .before .before .before .before .before .before .pre .2)))
+slice-aggregate-right-read-2 : tie.Need-slice-aggregate-right-read-2
+slice-aggregate-right-read-2 c = sym (length-take-le _ _ (omega (arith, c .before .before .before .doubles-at2 .ensures, c .before .before .before .before .before .before .pre .2)))
 
-array-borrow-prefix-rows : tie.Need-array-borrow-prefix-rows
-array-borrow-prefix-rows c = search needs
+array-share-prefix-rows : tie.Need-array-share-prefix-rows
+array-share-prefix-rows c = search needs
 
-slice-aggregate-right-lists-3 : tie.Need-slice-aggregate-right-lists-3
-slice-aggregate-right-lists-3 c = sym (length-take-le _ _ (omega (arith, c .before .before .before .before .before .number-buffer .ensures, c .before .before .before .before .before .before .before .before .before .pre .2)))
+slice-aggregate-right-read-3 : tie.Need-slice-aggregate-right-read-3
+slice-aggregate-right-read-3 c = sym (length-take-le _ _ (omega (arith, c .before .before .before .numbers-at .ensures, c .before .before .before .before .before .before .before .pre .2)))
 
-array-borrow-prefix-out : tie.Need-array-borrow-prefix-out
-array-borrow-prefix-out c = search needs
-
-slice-aggregate-right-lists-4 : tie.Need-slice-aggregate-right-lists-4
-slice-aggregate-right-lists-4 c = sym (length-take-le _ _ (omega (arith, c .before .before .before .before .before .buffer3 .ensures, c .before .before .before .before .before .before .before .before .before .before .pre .3)))
-
-array-borrow-prefix-floats : tie.Need-array-borrow-prefix-floats
-array-borrow-prefix-floats c = search needs
-
-slice-aggregate-right-lists-5 : tie.Need-slice-aggregate-right-lists-5
-slice-aggregate-right-lists-5 c = sym (length-take-le _ _ (omega (arith, c .before .before .before .before .before .working-list .ensures, c .before .before .before .before .before .before .before .before .before .before .before .pre .4)))
-
-right-lists-requires : tie.Need-right-lists-requires
-right-lists-requires c κs = search needs
+right-read-requires : tie.Need-right-read-requires
+right-read-requires c κs = search needs
 
 returns : tie.Need-returns
 returns c = search needs
@@ -60,20 +48,16 @@ pub right-case-spec : {M : Type 1} → statement M
 right-case-spec =
     tie.close
     (tie.spec
-    buffer-requires
-    buffer-requires-2
-    number-buffer-requires
-    buffer-requires-3
-    working-list-requires
-    array-borrow-prefix-a
-    slice-aggregate-right-lists
-    array-borrow-prefix-b
-    slice-aggregate-right-lists-2
-    array-borrow-prefix-rows
-    slice-aggregate-right-lists-3
-    array-borrow-prefix-out
-    slice-aggregate-right-lists-4
-    array-borrow-prefix-floats
-    slice-aggregate-right-lists-5
-    right-lists-requires
+    add-first
+    add-second
+    doubles-at-requires
+    doubles-at-requires-2
+    numbers-at-requires
+    array-share-prefix-a
+    slice-aggregate-right-read
+    array-share-prefix-b
+    slice-aggregate-right-read-2
+    array-share-prefix-rows
+    slice-aggregate-right-read-3
+    right-read-requires
     returns)
