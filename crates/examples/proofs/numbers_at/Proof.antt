@@ -1,4 +1,3 @@
-use native.Mathlib.Omega.{arith}
 use Prim.Native.Nat.{_-_, _≤_}
 use mathlib.Core.Path.{_≡_}
 use lib.ListN.{length, length-set}
@@ -21,25 +20,17 @@ loop-holds c = search needs
 word-from-requires : tie.Need-word-from-requires Inv-loop μ-loop
 word-from-requires c κs = search needs
 
-<<<<<<< HEAD:crates/examples/proofs/read_numbers/Proof.antt
-mul-out : tie.Need-mul-out Inv-loop μ-loop
-mul-out c = omega arith
-
-slice-write-out : tie.Need-slice-write-out Inv-loop μ-loop
-slice-write-out c = omega arith
-=======
 mul-xs : tie.Need-mul-xs Inv-loop μ-loop
 mul-xs c = search needs
 
 array-write-xs : tie.Need-array-write-xs Inv-loop μ-loop
 array-write-xs c = search needs
->>>>>>> a7c47690b0f7cb1c808dad30dc6001d36c83a50e:crates/examples/proofs/numbers_at/Proof.antt
 
 add-i : tie.Need-add-i Inv-loop μ-loop
-add-i c = omega arith
+add-i c = search needs
 
 loop-less : tie.Need-loop-less Inv-loop μ-loop
-loop-less c = omega arith
+loop-less c = search needs
 
 loop-again : tie.Need-loop-again Inv-loop μ-loop
 loop-again c = (search needs, simp length-set (search needs))
