@@ -10,7 +10,7 @@ use lib.Ieee.{Float, nan, inf, fin, add, sub, mul, neg, sum, round, units, odd, 
 use Rattle.sqrt.specs.Root.{root}
 use Rattle.lists.specs.Sums.{squareFrom}
 use Rattle.lists.proofs.Sums.{sum-same}
-use Rattle.distance.specs.Distance.{squaredAt, pairAt}
+use Rattle.columns.specs.Pair.{squaredAt, pairAt}
 
 abbrev square : Float → Float
 square x = mul binary64 x x

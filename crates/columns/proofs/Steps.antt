@@ -11,7 +11,7 @@ use Rattle.lists.specs.Sums.{sumTo, squareFrom, zero64}
 use Rattle.lists.proofs.Sums.{sum-more, sum-same}
 use Rattle.lists.proofs.Listed.{getD-listed, listed-same, listed-const, listed-length, length-listed}
 use Rattle.lists.proofs.Grid.{row-cell, in-grid}
-use Rattle.distance.specs.Distance.{squaredAt, pairAt}
+use Rattle.columns.specs.Pair.{squaredAt, pairAt}
 use Rattle.columns.specs.Columns.{added, addedFour, columnAt, sumsTo}
 
 sum-four : (f : ℕ → Float) (c : ℕ) {s : Float} → s ≡ sumTo f c

@@ -1,4 +1,4 @@
--- Distances of a book of correlations, and of the rows of those distances. Definitions only.
+-- Distances of a book of correlations. Definitions only.
 use Prim.Native.Nat.{ℕ, _*_, _<_, _≤_}
 use mathlib.Core.Path.{_≡_}
 use mathlib.Core.Bool.{true, false, cond}
@@ -8,7 +8,6 @@ use lib.IntN.{pos}
 use lib.Ieee.{Float, fin, lt, sub, div, binary64}
 use Rattle.sqrt.specs.Root.{root}
 use Rattle.lists.specs.Lists.{numbers, cellAt}
-use Rattle.lists.specs.Sums.{sumTo, squareFrom}
 
 abbrev pub one64 : Float
 one64 = fin false 1 (pos 0)
@@ -34,13 +33,6 @@ through book n rows i j = cellAt book n (numbers rows i) (numbers rows j)
 -- the distance of names i and j of that book
 unfoldable pub distAt : List Float → ℕ → List ℕ → ℕ → ℕ → Float
 distAt book n rows i j = distanceOf (through book n rows i j)
-
--- the squared distance of items i and j, whose m columns are x i and x j, summed in column order; and their distance
-unfoldable pub squaredAt : (ℕ → ℕ → Float) → ℕ → ℕ → ℕ → Float
-squaredAt x m i j = sumTo (λ c. squareFrom (x j c) (x i c)) m
-
-unfoldable pub pairAt : (ℕ → ℕ → Float) → ℕ → ℕ → ℕ → Float
-pairAt x m i j = root (squaredAt x m i j)
 
 -- what a read through the rows needs: n rows of n cells, and each row number below n
 pub record Readable (book : List Float) (n : ℕ) (rows : List ℕ) : Type 0 where

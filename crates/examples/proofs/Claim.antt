@@ -6,7 +6,7 @@ use Rattle.lists.specs.Sums.{sumTo, allTo, foldIf}
 use Rattle.sqrt.specs.Root.{root}
 use Rattle.stats.specs.Average.{constant, meanOf, varianceAbout, varianceOf, averaged}
 use Rattle.tstat.specs.Quality.{ratio, tstatOf}
-use Rattle.silhouette.specs.Scores.{least, scoreOf, scoreFrom}
+use Rattle.scores.specs.Scores.{least, scoreOf, scoreFrom}
 use Rattle.silhouette.specs.Leaf.{scoreAt}
 use Rattle.examples.specs.Starred.{table, AllHold, answer, given, values}
 

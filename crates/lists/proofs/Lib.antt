@@ -6,3 +6,4 @@ pub mod Grid
 pub mod Parts
 pub mod Areas
 pub mod Sums
+pub mod Floats

@@ -1,9 +1,13 @@
-// Filling, copying, searching and reading of lent lists: the inner forms that the crates above share.
-// Their callers know the lengths, so they ask for them.
+// Filling, copying, searching, reading and summing of lent lists, and tests on doubles: what the crates above share.
+// The inner forms ask for the lengths, which their callers know.
 ghost use mathlib.Core.Path.{_≡_};
 ghost use Prim.Native.Nat.{ℕ, _≤_, _<_, _*_};
+ghost use mathlib.Core.Bool.{false};
 ghost use lib.ListN.{length, replicate};
-ghost use Rattle.lists.specs.Lists.{row, cellAt, listed, grid, firstFrom};
+ghost use lib.Ieee.{inf};
+ghost use lib.Ieee.Scale.{finite};
+ghost use Rattle.lists.specs.Lists.{row, cells, cellAt, listed, grid, firstFrom};
+ghost use Rattle.lists.specs.Sums.{counted, sumTo};
 
 // x in each place.
 pub fn fill(xs: &mut [f64], x: f64)
@@ -85,4 +89,38 @@ pub fn row_buffer() -> [f64; 256]
     ensures { λ r. ⌜ length r ≡ 256 ⌝ }
 {
     [0.0; 256]
+}
+
+// +infinity.
+pub fn infinity() -> f64
+    ensures { λ r. ⌜ r ≡ inf false ⌝ }
+{
+    1.0 / 0.0
+}
+
+// Whether x is neither an infinity nor a NaN.
+pub fn is_finite(x: f64) -> bool
+    ensures { λ r. ⌜ r ≡ finite x ⌝ }
+{
+    let top = infinity();
+    if x < top { -top < x } else { false }
+}
+
+// A count as a double.
+pub fn count_as_f64(n: usize) -> f64
+    ensures { λ r. ⌜ r ≡ counted n ⌝ }
+{
+    std::num::nearest_u64_to_f64(n as u64)
+}
+
+// The values summed from the left, from +0.
+pub fn sum_of(values: &[f64]) -> f64
+    ensures { λ r. ⌜ r ≡ sumTo (cells (now (values .entry))) (length (now (values .entry))) ⌝ }
+{
+    let mut sum = 0.0;
+    let n = values.len();
+    for i in 0..n {
+        sum = sum + values[i];
+    }
+    sum
 }

@@ -15,7 +15,7 @@ use Rattle.lists.proofs.Rows.{row-end}
 use Rattle.lists.proofs.Grid.{cell-below, row-cell, row-long, flat-at, grid-same, listed-append, in-grid}
 use Rattle.lists.proofs.Parts.{part-front, drop-behind, put-take, put-length, put-part, getD-part, getD-front}
 use Rattle.lists.proofs.Areas.{put-next, areaTo, area-more, area-front, area-rows, area-length}
-use Rattle.distance.specs.Distance.{squaredAt, pairAt}
+use Rattle.columns.specs.Pair.{squaredAt, pairAt}
 use Rattle.pairs.specs.Pairs.{pairsArea}
 use Rattle.pairs.specs.Regions.{pointsAt, Area, Turned, Summed, Rooted}
 use Rattle.columns.specs.Columns.{Columns, sumsTo}

@@ -3,7 +3,7 @@ use Prim.Native.Nat.{ℕ}
 use mathlib.Core.List.{List, _++_}
 use lib.Ieee.{Float}
 use Rattle.lists.specs.Lists.{grid}
-use Rattle.distance.specs.Distance.{squaredAt, pairAt}
+use Rattle.columns.specs.Pair.{squaredAt, pairAt}
 
 -- the four areas of a round over m items whose columns are x: the columns by item, the items by column, the squared pair distances, the pair distances
 unfoldable pub pairsArea : (ℕ → ℕ → Float) → ℕ → List Float

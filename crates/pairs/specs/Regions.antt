@@ -5,7 +5,7 @@ use mathlib.Core.List.{List}
 use lib.ListN.{length, take}
 use lib.Ieee.{Float}
 use Rattle.lists.specs.Lists.{cellAt, part, flat, grid, listed}
-use Rattle.distance.specs.Distance.{squaredAt, pairAt}
+use Rattle.columns.specs.Pair.{squaredAt, pairAt}
 
 -- the columns of the m items, which stand in the first area
 abbrev pub pointsAt : List Float → ℕ → ℕ → ℕ → Float

@@ -5,7 +5,8 @@ ghost use Prim.Native.Nat.{ℕ, _<_, _≤_, _+_, _*_};
 ghost use lib.ListN.{length};
 ghost use Rattle.sqrt.specs.Root.{root};
 ghost use Rattle.lists.specs.Lists.{listed, cells, cellAt, put, grid};
-ghost use Rattle.distance.specs.Distance.{Readable, distAt, squaredAt, pairAt};
+ghost use Rattle.distance.specs.Distance.{Readable, distAt};
+ghost use Rattle.columns.specs.Pair.{squaredAt, pairAt};
 ghost use Rattle.pairs.specs.Pairs.{pairsArea};
 ghost use Rattle.pairs.specs.Regions.{pointsAt, Area, Turned, Summed, Rooted};
 

@@ -13,7 +13,7 @@ use Rattle.lists.specs.Lists.{part, flat, grid}
 use Rattle.lists.proofs.Listed.{length-listed}
 use Rattle.lists.proofs.Parts.{drop-behind}
 use Rattle.refusals.specs.Table.{workDoubles, wiped}
-use Rattle.distance.specs.Distance.{squaredAt, pairAt}
+use Rattle.columns.specs.Pair.{squaredAt, pairAt}
 use Rattle.pairs.specs.Pairs.{pairsArea}
 use Rattle.pairwise.specs.Leaves.{listsFit, Fitting}
 

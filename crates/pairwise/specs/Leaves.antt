@@ -8,7 +8,8 @@ use lib.ListN.{length}
 use lib.Ieee.{Float}
 use Rattle.lists.specs.Lists.{cellAt, grid, firstFrom}
 use Rattle.refusals.specs.Table.{refusal, workDoubles, Worked, worked}
-use Rattle.distance.specs.Distance.{distAt, pairAt}
+use Rattle.distance.specs.Distance.{distAt}
+use Rattle.columns.specs.Pair.{pairAt}
 
 -- an output of m by m cells, and doubles to work in at a run's length
 abbrev pub listsFit : ℕ → ℕ → ℕ → Bool

@@ -18,10 +18,10 @@ use Rattle.lists.proofs.Parts.{drop-behind}
 use Rattle.refusals.specs.Table.{numberOf, refusalOf, refusal, Refusal, workDoubles, wiped}
 use Rattle.refusals.specs.declared.Answer.{Answer}
 use Rattle.refusals.proofs.Laws.{accepted}
-use Rattle.silhouette.specs.Scores.{silhouette}
+use Rattle.scores.specs.Scores.{silhouette}
 use Rattle.silhouette.specs.Leaf.{scoreAt, listsFit}
-use Rattle.silhouette.specs.Groups.{distance, Shape, scoresAcross}
-use Rattle.silhouette.proofs.Least.{score-same}
+use Rattle.scores.specs.Groups.{distance, Shape, scoresAcross}
+use Rattle.scores.proofs.Least.{score-same}
 
 -- The pair distances transposed, at the front of the working list.
 module _ (pairs : List Float) (n : ℕ) (labels : List ℕ) (floats : List Float) (named : length labels ≡ n) (room : workDoubles n ≤ length floats)

@@ -1,5 +1,2 @@
--- Laws of the silhouette's definitions, and of the loops over groups.
-pub mod Members
-pub mod Least
-pub mod Turns
+-- Laws of the working list and of the checks.
 pub mod Called

@@ -1,5 +1,2 @@
--- Rousseeuw's silhouette. Read Scores.antt for one item's score, then Leaf.antt for what the call gives and leaves;
--- Groups.antt has what the inner functions leave.
-pub mod Scores
+-- What `silhouette_from_pairwise` gives and leaves (Leaf.antt). One item's score is in scores/specs/Scores.antt.
 pub mod Leaf
-pub mod Groups

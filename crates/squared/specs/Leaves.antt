@@ -8,7 +8,8 @@ use lib.Ieee.{Float}
 use Rattle.lists.specs.Lists.{cells, firstFrom}
 use Rattle.lists.specs.Sums.{sumTo, squareFrom}
 use Rattle.refusals.specs.Table.{Refusal, none, refusal, refusalOf, numberOf, placeOf}
-use Rattle.distance.specs.Distance.{distAt, squaredAt}
+use Rattle.distance.specs.Distance.{distAt}
+use Rattle.columns.specs.Pair.{squaredAt}
 use Rattle.squared.specs.declared.Squared.{Squared}
 use Rattle.squared.specs.declared.Squared.the-variants.{Value, Refused}
 

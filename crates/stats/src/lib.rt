@@ -3,8 +3,6 @@ ghost use mathlib.Core.Path.{_≡_};
 ghost use mathlib.Core.Bool.{true, false};
 ghost use Prim.Native.Nat.{_<_, _≤_};
 ghost use lib.ListN.{length};
-ghost use lib.IntN.{pos};
-ghost use lib.Ieee.{inf, binary64, ofInt};
 ghost use lib.Ieee.Scale.{finite};
 ghost use Rattle.lists.specs.Lists.{cells};
 ghost use Rattle.lists.specs.Sums as sums;
@@ -16,40 +14,6 @@ pub enum Average {
     Value(f64),
     Empty,
     TooMany,
-}
-
-// +infinity.
-pub fn infinity() -> f64
-    ensures { λ r. ⌜ r ≡ inf false ⌝ }
-{
-    1.0 / 0.0
-}
-
-// Whether x is neither an infinity nor a NaN.
-pub fn is_finite(x: f64) -> bool
-    ensures { λ r. ⌜ r ≡ finite x ⌝ }
-{
-    let top = infinity();
-    if x < top { -top < x } else { false }
-}
-
-// A count as a double.
-pub fn count_as_f64(n: usize) -> f64
-    ensures { λ r. ⌜ r ≡ sums.counted n ⌝ }
-{
-    std::num::nearest_u64_to_f64(n as u64)
-}
-
-// The values summed from the left, from +0.
-pub fn sum_of(values: &[f64]) -> f64
-    ensures { λ r. ⌜ r ≡ sums.sumTo (cells (now (values .entry))) (length (now (values .entry))) ⌝ }
-{
-    let mut sum = 0.0;
-    let n = values.len();
-    for i in 0..n {
-        sum = sum + values[i];
-    }
-    sum
 }
 
 // Whether x is a number with the bits of y, which is a number.
@@ -83,7 +47,7 @@ fn is_constant(values: &[f64]) -> bool
     ensures { λ r. ⌜ r ≡ average.constant (cells (now (values .entry))) (length (now (values .entry))) ⌝ }
 {
     let first = values[0];
-    if is_finite(first) {
+    if lists::is_finite(first) {
         all_same(values, first)
     } else {
         false
@@ -98,7 +62,7 @@ pub fn mean_value(values: &[f64]) -> f64
     if is_constant(values) {
         return values[0];
     }
-    sum_of(values) / count_as_f64(values.len())
+    lists::sum_of(values) / lists::count_as_f64(values.len())
 }
 
 // The squares of the differences from m, summed from the left.
@@ -133,7 +97,7 @@ pub fn variance_about(values: &[f64], m: f64, ddof: usize) -> f64
     requires { ⌜ ddof < length (now values) ⌝ }
     ensures { λ r. ⌜ r ≡ average.varianceAbout m (cells (now (values .entry))) (length (now (values .entry))) ddof ⌝ }
 {
-    sum_of_squares(values, m) / count_as_f64(values.len() - ddof)
+    sum_of_squares(values, m) / lists::count_as_f64(values.len() - ddof)
 }
 
 // The variance of more than ddof values. Inner form.

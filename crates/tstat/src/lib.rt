@@ -12,7 +12,7 @@ fn ratio(m: f64, s: f64) -> f64
 {
     if s <= 1e-12 {
         if m > 0.0 {
-            return stats::infinity();
+            return lists::infinity();
         }
         return 0.0;
     }
@@ -45,7 +45,7 @@ pub fn tstat(values: &[f64]) -> Average
 pub fn mean_of_value(values: &[f64]) -> f64
     ensures { λ r. ⌜ r ≡ quality.plainMean (cells (now (values .entry))) (length (now (values .entry))) ⌝ }
 {
-    stats::sum_of(values) / stats::count_as_f64(values.len())
+    lists::sum_of(values) / lists::count_as_f64(values.len())
 }
 
 // The sum over the count, with no exception for equal values: three values of 0.1 give 0.10000000000000002.

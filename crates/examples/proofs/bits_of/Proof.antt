@@ -1,5 +1,5 @@
 use borrow.Author.Needs.{needs}
-use Rattle.stats.proofs.Floats.{number}
+use Rattle.lists.proofs.Floats.{number}
 use Rattle.examples.proofs.bits_of.Statement.{statement}
 use Rattle.examples.proofs.bits_of.Tie as tie
 

@@ -3,7 +3,7 @@ use mathlib.Core.Path.{_≡_, refl}
 use native.Mathlib.Omega.{arith}
 use lib.ListN.{length}
 use borrow.Author.Needs.{needs}
-use Rattle.distance.specs.Distance.{pairAt}
+use Rattle.columns.specs.Pair.{pairAt}
 use Rattle.lists.specs.Lists.{cellAt}
 use Rattle.lists.proofs.Areas.{area-length, area-none, areaTo}
 use Rattle.pairs.specs.Regions.{pointsAt}

@@ -6,7 +6,8 @@ use lib.Ieee.{ofBits}
 use borrow.Author.Needs.{needs}
 use Rattle.lists.specs.Sums.{squareFrom, sumTo}
 use Rattle.lists.proofs.Sums.{sum-more}
-use Rattle.distance.specs.Distance.{distAt, squaredAt}
+use Rattle.distance.specs.Distance.{distAt}
+use Rattle.columns.specs.Pair.{squaredAt}
 use Rattle.squared.proofs.squared_between.Statement.{statement}
 use Rattle.squared.proofs.squared_between.Tie as tie
 

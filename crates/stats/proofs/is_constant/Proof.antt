@@ -7,7 +7,7 @@ use Rattle.stats.proofs.is_constant.Tie as tie
 use Rattle.stats.proofs.is_constant.Reads as reads
 use Rattle.stats.proofs.is_constant.Lts as lts
 use Rattle.stats.proofs.all_same.Reads as all-same-reads
-use Rattle.stats.proofs.is_finite.Reads as is-finite-reads
+use Rattle.lists.proofs.is_finite.Reads as is-finite-reads
 
 shared-slice-read-first : tie.Need-shared-slice-read-first
 shared-slice-read-first c = omega arith

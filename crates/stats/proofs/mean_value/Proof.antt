@@ -6,9 +6,9 @@ use Rattle.stats.proofs.mean_value.Statement.{statement}
 use Rattle.stats.proofs.mean_value.Tie as tie
 use Rattle.stats.proofs.mean_value.Reads as reads
 use Rattle.stats.proofs.mean_value.Lts as lts
-use Rattle.stats.proofs.count_as_f64.Reads as count-as-f64-reads
+use Rattle.lists.proofs.count_as_f64.Reads as count-as-f64-reads
 use Rattle.stats.proofs.is_constant.Reads as is-constant-reads
-use Rattle.stats.proofs.sum_of.Reads as sum-of-reads
+use Rattle.lists.proofs.sum_of.Reads as sum-of-reads
 
 is-constant-requires : tie.Need-is-constant-requires
 is-constant-requires c κs = search needs

@@ -1,0 +1,4 @@
+-- Laws of the groups' sums and means.
+pub mod Least
+pub mod Members
+pub mod Turns
