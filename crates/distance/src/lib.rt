@@ -1,5 +1,5 @@
 // Distances of a book of correlations, on plain lent lists and through a list of row numbers. A book that is read
-// through row numbers is never copied: each cell is read where it lies.
+// through row numbers is read where it lies; only `submatrix` copies cells, to the list that the caller lends for them.
 ghost use mathlib.Core.Path.{_≡_};
 ghost use Prim.Native.Nat.{_<_, _*_};
 ghost use lib.Dec.{eqb};

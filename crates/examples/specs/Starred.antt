@@ -3,23 +3,24 @@ use Prim.Native.Nat.{ℕ}
 use mathlib.Core.Path.{_≡_}
 use mathlib.Core.Bool.{true, false}
 use mathlib.Core.List.{List, [], _∷_}
-use lib.ListN.{length}
+use lib.ListN.{length, replicate}
 use lib.IntN.{pos, negsuc}
 use lib.Ieee.{Float, inf, fin}
-use Rattle.lists.specs.Lists.{listed, cells}
-use Rattle.lists.specs.Sums.{counted}
+use Rattle.lists.specs.Lists.{cells}
+use Rattle.lists.specs.Sums.{counted, zero64}
 use Rattle.sqrt.specs.Root.{root}
 use Rattle.stats.specs.Average as stats
 use Rattle.tstat.specs.Quality as quality
-use Rattle.silhouette.specs.Leaf.{scoreAt}
+use Rattle.refusals.specs.Table.{workDoubles, Worked}
+use Rattle.silhouette.specs.Leaf.{silhouettesOf}
 
 -- which definition is asked, and of what
 pub data Question : Type 0 where
-  root-of : Float → Question
-  mean-of : List Float → Question
-  variance-of : List Float → ℕ → Question
-  tstat-of : List Float → Question
-  scores-of : List Float → List ℕ → Question
+  the-root : Float → Question
+  the-mean : List Float → Question
+  the-variance : List Float → ℕ → Question
+  the-tstat : List Float → Question
+  the-scores : List Float → List ℕ → Question
 
 -- an answer: the table's number, and the values
 pub record Answered : Type 0 where
@@ -29,15 +30,15 @@ pub record Answered : Type 0 where
 unfoldable pub given : stats.Averaged → Answered
 given a = record { number = a .number; values = a .values }
 
-unfoldable pub values : List Float → Answered
-values xs = record { number = 0; values = xs }
+unfoldable pub left : Worked → Answered
+left w = record { number = w .answer .number; values = w .out }
 
 unfoldable pub answer : Question → Answered
-answer (root-of x) = values (root x ∷ [])
-answer (mean-of xs) = given (stats.mean (cells xs) (length xs))
-answer (variance-of xs ddof) = given (stats.variance (cells xs) (length xs) ddof)
-answer (tstat-of xs) = given (quality.tstat (cells xs) (length xs))
-answer (scores-of pairs labels) = values (listed (scoreAt pairs (length labels) labels) (length labels))
+answer (the-root x) = record { number = 0; values = root x ∷ [] }
+answer (the-mean xs) = given (stats.mean (cells xs) (length xs))
+answer (the-variance xs ddof) = given (stats.variance (cells xs) (length xs) ddof)
+answer (the-tstat xs) = given (quality.tstat (cells xs) (length xs))
+answer (the-scores pairs labels) = left (silhouettesOf pairs (length labels) labels (replicate (length labels) zero64) (replicate (workDoubles (length labels)) zero64))
 
 pub record Example : Type 0 where
   pub asked : Question
@@ -66,22 +67,22 @@ half = scaled 1 0
 abbrev pub table : List Example
 table =
     -- the root of 0.25 is 0.5, of 4 is 2, of -0 is -0, of 2 ^ -1074 is 2 ^ -537
-    (record { asked = root-of quarter; expected = one half })
-    ∷ (record { asked = root-of (fin false 1 (pos 2)); expected = one (fin false 1 (pos 1)) })
-    ∷ (record { asked = root-of (fin true 0 (pos 0)); expected = one (fin true 0 (pos 0)) })
-    ∷ (record { asked = root-of (scaled 1 1073); expected = one (scaled 1 536) })
+    (record { asked = the-root quarter; expected = one half })
+    ∷ (record { asked = the-root (fin false 1 (pos 2)); expected = one (fin false 1 (pos 1)) })
+    ∷ (record { asked = the-root (fin true 0 (pos 0)); expected = one (fin true 0 (pos 0)) })
+    ∷ (record { asked = the-root (scaled 1 1073); expected = one (scaled 1 536) })
     -- the mean of 1, 2, 6 is 3; of nothing there is none
-    ∷ (record { asked = mean-of (whole 1 ∷ whole 2 ∷ whole 6 ∷ []); expected = one (whole 3) })
-    ∷ (record { asked = mean-of []; expected = nothing })
+    ∷ (record { asked = the-mean (whole 1 ∷ whole 2 ∷ whole 6 ∷ []); expected = one (whole 3) })
+    ∷ (record { asked = the-mean []; expected = nothing })
     -- the variance of 2, 4, 4, 4, 5, 5, 7, 9 with ddof 0 is 4; of one value with ddof 1 there is none
-    ∷ (record { asked = variance-of (whole 2 ∷ whole 4 ∷ whole 4 ∷ whole 4 ∷ whole 5 ∷ whole 5 ∷ whole 7 ∷ whole 9 ∷ []) 0; expected = one (whole 4) })
-    ∷ (record { asked = variance-of (whole 1 ∷ []) 1; expected = nothing })
+    ∷ (record { asked = the-variance (whole 2 ∷ whole 4 ∷ whole 4 ∷ whole 4 ∷ whole 5 ∷ whole 5 ∷ whole 7 ∷ whole 9 ∷ []) 0; expected = one (whole 4) })
+    ∷ (record { asked = the-variance (whole 1 ∷ []) 1; expected = nothing })
     -- the t-stat of 0.5, 0.5 is +infinity, of -0.5, -0.5 is 0
-    ∷ (record { asked = tstat-of (half ∷ half ∷ []); expected = one (inf false) })
-    ∷ (record { asked = tstat-of (fin true 1 (negsuc 0) ∷ fin true 1 (negsuc 0) ∷ []); expected = one (whole 0) })
+    ∷ (record { asked = the-tstat (half ∷ half ∷ []); expected = one (inf false) })
+    ∷ (record { asked = the-tstat (fin true 1 (negsuc 0) ∷ fin true 1 (negsuc 0) ∷ []); expected = one (whole 0) })
     -- pair distances 1 (0-1), 2 (0-2), 4 (1-2) with labels 0, 0, 1: scores 0.5, 0.75, 0
     ∷ (record {
-      asked = scores-of (whole 0 ∷ whole 1 ∷ whole 2 ∷ whole 1 ∷ whole 0 ∷ whole 4 ∷ whole 2 ∷ whole 4 ∷ whole 0 ∷ []) (0 ∷ 0 ∷ 1 ∷ []);
+      asked = the-scores (whole 0 ∷ whole 1 ∷ whole 2 ∷ whole 1 ∷ whole 0 ∷ whole 4 ∷ whole 2 ∷ whole 4 ∷ whole 0 ∷ []) (0 ∷ 0 ∷ 1 ∷ []);
       expected = record { number = 0; values = half ∷ scaled 3 1 ∷ whole 0 ∷ [] };
     })
     ∷ []

@@ -10,7 +10,7 @@ ghost use Rattle.columns.specs.Pair.{squaredAt, pairAt};
 ghost use Rattle.pairs.specs.Pairs.{pairsArea};
 ghost use Rattle.pairs.specs.Regions.{pointsAt, Area, Turned, Summed, Rooted};
 
-// Cells that lie `step` apart, copied to one piece further on in the same list. Inner form, as all up to `pairs_in`.
+// Cells that lie `step` apart, copied one behind the other to a place further on in the same list. Inner form, as all functions here.
 fn gather(area: &mut [f64], from: usize, step: usize, to: usize, count: usize)
     requires { ⌜ (to + count ≤ length (now area)) × ((j : ℕ) → j < count → from + j * step < to) ⌝ }
     ensures { λ _. ⌜ now (area .exit) ≡ put to count (now (area .entry)) (listed (λ j. cells (now (area .entry)) (from + j * step)) count) ⌝ }
@@ -46,7 +46,7 @@ fn transpose(area: &mut [f64], m: usize)
     }
 }
 
-// The same of item i of the list.
+// The squared distances of item i to each item.
 fn squared_item(area: &[f64], m: usize, i: usize, sums: &mut [f64])
     requires { ⌜ Turned (now area) m × (i < m) × (length (now sums) ≡ m) ⌝ }
     ensures { λ _. ⌜ now (sums .exit) ≡ listed (squaredAt (pointsAt (now (area .entry)) m) m i) m ⌝ }

@@ -1,2 +1,2 @@
--- Distances between the rows of a matrix. One pair is in distance/specs/Distance.antt; Leaves.antt says what each call gives and leaves.
+-- Distances between the rows of a matrix. One pair is in columns/specs/Pair.antt; Leaves.antt says what each call gives and leaves.
 pub mod Leaves

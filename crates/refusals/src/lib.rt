@@ -1,6 +1,7 @@
 // What a call on lent lists answers, and the checks that every such call makes, in the table's order.
 ghost use mathlib.Core.Path.{_≡_};
-ghost use Prim.Native.Nat.{_≤_, _*_};
+ghost use mathlib.Core.Bool.{false};
+ghost use Prim.Native.Nat.{_≤_, _<_, _*_};
 ghost use lib.Dec.{leb, eqb};
 ghost use Rattle.refusals.specs.Table.{numberOf, placeOf, refusalOf, refusal, workDoubles};
 
@@ -44,7 +45,7 @@ pub fn place_of(a: Answer) -> usize
 
 // Whether a list has the length of a matrix of m rows, for at most 256 rows; false for more, where 4 comes first.
 pub fn is_square(length: usize, m: usize) -> bool
-    ensures { λ r. ⌜ (m ≤ 256 → r ≡ eqb length (m * m)) ⌝ }
+    ensures { λ r. ⌜ (m ≤ 256 → r ≡ eqb length (m * m)) × (256 < m → r ≡ false) ⌝ }
 {
     if m > 256 {
         return false;
@@ -54,7 +55,7 @@ pub fn is_square(length: usize, m: usize) -> bool
 
 // Whether a working list has room for m names; false for more than 256, where 4 comes first.
 pub fn has_room(length: usize, m: usize) -> bool
-    ensures { λ r. ⌜ (m ≤ 256 → r ≡ leb (workDoubles m) length) ⌝ }
+    ensures { λ r. ⌜ (m ≤ 256 → r ≡ leb (workDoubles m) length) × (256 < m → r ≡ false) ⌝ }
 {
     if m > 256 {
         return false;

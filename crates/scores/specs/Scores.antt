@@ -1,6 +1,6 @@
 -- Rousseeuw's silhouette of item i: d j is its distance to item j, label j is the group of item j, and there are n items. Definitions only.
 use Prim.Native.Nat.{ℕ, zero, suc}
-use mathlib.Core.Bool.{Bool, true, false, cond, not, _&&_, _||_}
+use mathlib.Core.Bool.{Bool, false, cond, not, _&&_, _||_}
 use lib.Dec.{eqb}
 use lib.Ieee.{Float, inf, sub, div, lt, eq, binary64}
 use lib.Ieee.Scale.{finite}

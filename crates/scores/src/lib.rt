@@ -150,6 +150,7 @@ fn finish(own: &[f64], scores: &mut [f64])
 }
 
 // The score of each item; row j of `across` has the distances of all items to item j, and the labels are below k. Inner form.
+// `sums` and `own` are lists to work in, and hold nothing of use afterwards.
 pub fn scores_by_label(
     across: &[f64],
     labels: &[usize],

@@ -1,13 +1,13 @@
 -- What the squared distance of two lists, and of two items of a book, is. Definitions only.
 use Prim.Native.Nat.{ℕ, _+_, min}
-use mathlib.Core.Bool.{Bool, true, false, cond}
+use mathlib.Core.Bool.{true, cond}
 use mathlib.Core.List.{List, [], _∷_}
 use lib.Dec.{eqb, ltb, leb}
 use lib.ListN.{length}
 use lib.Ieee.{Float}
 use Rattle.lists.specs.Lists.{cells, firstFrom}
 use Rattle.lists.specs.Sums.{sumTo, squareFrom}
-use Rattle.refusals.specs.Table.{Refusal, none, refusal, refusalOf, numberOf, placeOf}
+use Rattle.refusals.specs.Table.{Refusal, refusal, numberOf, placeOf}
 use Rattle.distance.specs.Distance.{distAt}
 use Rattle.columns.specs.Pair.{squaredAt}
 use Rattle.squared.specs.declared.Squared.{Squared}

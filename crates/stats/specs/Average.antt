@@ -1,6 +1,6 @@
 -- The mean, the variance and the deviation of n values, given as an index function. Definitions only.
 use Prim.Native.Nat.{ℕ, _-_}
-use mathlib.Core.Bool.{Bool, true, false, cond, not, _&&_, _||_}
+use mathlib.Core.Bool.{Bool, cond, not, _&&_, _||_}
 use mathlib.Core.List.{List, [], _∷_}
 use lib.Dec.{eqb, leb, ltb}
 use lib.Ieee.{Float, isNan, toBits, div, binary64}
@@ -19,8 +19,8 @@ unfoldable pub constant : (ℕ → Float) → ℕ → Bool
 constant f n = finite (f 0) && allTo (λ j. sameBits (f j) (f 0)) n
 
 -- the mean of one value or more: finite values with equal bits give that value, others their sum over their count
-unfoldable pub meanOf : (ℕ → Float) → ℕ → Float
-meanOf f n = cond (constant f n) (f 0) (div binary64 (sumTo f n) (counted n))
+unfoldable pub exactMean : (ℕ → Float) → ℕ → Float
+exactMean f n = cond (constant f n) (f 0) (div binary64 (sumTo f n) (counted n))
 
 -- the squares of the differences from m, summed, over n - ddof
 unfoldable pub varianceAbout : Float → (ℕ → Float) → ℕ → ℕ → Float
@@ -28,7 +28,7 @@ varianceAbout m f n ddof = div binary64 (sumTo (λ j. squareFrom m (f j)) n) (co
 
 -- the variance of more than ddof values
 unfoldable pub varianceOf : (ℕ → Float) → ℕ → ℕ → Float
-varianceOf f n ddof = varianceAbout (meanOf f n) f n ddof
+varianceOf f n ddof = varianceAbout (exactMean f n) f n ddof
 
 -- the deviation of more than ddof values
 abbrev pub deviationOf : (ℕ → Float) → ℕ → ℕ → Float
@@ -61,7 +61,7 @@ averaged n none x =
 
 -- mean, variance and std_dev: no value for n = 0, and for n at most ddof
 abbrev pub mean : (ℕ → Float) → ℕ → Averaged
-mean f n = averaged n (eqb n 0) (meanOf f n)
+mean f n = averaged n (eqb n 0) (exactMean f n)
 
 abbrev pub variance : (ℕ → Float) → ℕ → ℕ → Averaged
 variance f n ddof = averaged n (eqb n 0 || leb n ddof) (varianceOf f n ddof)

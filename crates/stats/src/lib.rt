@@ -57,7 +57,7 @@ fn is_constant(values: &[f64]) -> bool
 // The mean of one value or more. Inner form.
 pub fn mean_value(values: &[f64]) -> f64
     requires { ⌜ 0 < length (now values) ⌝ }
-    ensures { λ r. ⌜ r ≡ average.meanOf (cells (now (values .entry))) (length (now (values .entry))) ⌝ }
+    ensures { λ r. ⌜ r ≡ average.exactMean (cells (now (values .entry))) (length (now (values .entry))) ⌝ }
 {
     if is_constant(values) {
         return values[0];

@@ -1,10 +1,10 @@
 -- The t-statistic of n values, mean over population deviation, and their plain mean. Definitions only.
 use Prim.Native.Nat.{ℕ}
-use mathlib.Core.Bool.{Bool, true, false, cond}
+use mathlib.Core.Bool.{false, cond}
 use lib.Dec.{eqb}
 use lib.Ieee.{Float, inf, lt, le, div, ofBits, binary64}
 use Rattle.lists.specs.Sums.{zero64, sumTo, counted}
-use Rattle.stats.specs.Average.{meanOf, deviationOf, Averaged, averaged}
+use Rattle.stats.specs.Average.{exactMean, deviationOf, Averaged, averaged}
 
 -- the double nearest 1e-12
 abbrev pub tiny : Float
@@ -16,7 +16,7 @@ ratio m s = cond (le s tiny) (cond (lt zero64 m) (inf false) zero64) (div binary
 
 -- of no value: 0
 unfoldable pub tstatOf : (ℕ → Float) → ℕ → Float
-tstatOf f n = cond (eqb n 0) zero64 (ratio (meanOf f n) (deviationOf f n 0))
+tstatOf f n = cond (eqb n 0) zero64 (ratio (exactMean f n) (deviationOf f n 0))
 
 abbrev pub tstat : (ℕ → Float) → ℕ → Averaged
 tstat f n = averaged n false (tstatOf f n)
@@ -25,5 +25,5 @@ tstat f n = averaged n false (tstatOf f n)
 unfoldable pub plainMean : (ℕ → Float) → ℕ → Float
 plainMean f n = div binary64 (sumTo f n) (counted n)
 
-abbrev pub meanOfAll : (ℕ → Float) → ℕ → Averaged
-meanOfAll f n = averaged n false (plainMean f n)
+abbrev pub meanOf : (ℕ → Float) → ℕ → Averaged
+meanOf f n = averaged n false (plainMean f n)

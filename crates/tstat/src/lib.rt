@@ -50,7 +50,7 @@ pub fn mean_of_value(values: &[f64]) -> f64
 
 // The sum over the count, with no exception for equal values: three values of 0.1 give 0.10000000000000002.
 pub fn mean_of(values: &[f64]) -> Average
-    ensures { λ r. ⌜ averagedOf r ≡ quality.meanOfAll (cells (now (values .entry))) (length (now (values .entry))) ⌝ }
+    ensures { λ r. ⌜ averagedOf r ≡ quality.meanOf (cells (now (values .entry))) (length (now (values .entry))) ⌝ }
 {
     if 65536 < values.len() {
         return Average::TooMany;

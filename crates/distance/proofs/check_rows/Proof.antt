@@ -14,7 +14,7 @@ check-requires : tie.Need-check-requires
 check-requires c κs = search needs
 
 returns : tie.Need-returns
-returns c = c .check .ensures ∙ rw (c .before .first-from .ensures) (fits-asked _ _ _ _ _ _ _ (c .before .before .is-square .ensures))
+returns c = c .check .ensures ∙ rw (c .before .first-from .ensures) (fits-asked _ _ _ _ _ _ _ (c .before .before .is-square .ensures .0))
 
 pub check-rows-spec : {M : Type 1} → statement M
 check-rows-spec =

@@ -16,7 +16,7 @@ use Rattle.distance.proofs.corr_to_distance.Tie as tie
 ok : (c : tie.Else1) → Accepted (length (c .before .before .before .before .before .before .args .book .now)) (c .before .before .before .before .before .before .args .n) (c .before .before .before .before .before .before .args .n) (eqb (length (c .before .before .before .before .before .before .args .out .now)) (c .before .before .before .before .before .before .args .n * c .before .before .before .before .before .before .args .n)) 0 0
 ok c =
     accepted (length (c .before .before .before .before .before .before .args .book .now)) (c .before .before .before .before .before .before .args .n) (c .before .before .before .before .before .before .args .n) (eqb (length (c .before .before .before .before .before .before .args .out .now)) (c .before .before .before .before .before .before .args .n * c .before .before .before .before .before .before .args .n)) 0 0
-    (passed (c .before .before .check .result) (c .before .before .check .ensures ∙ fits-asked _ _ _ _ _ _ _ (c .before .before .before .is-square .ensures)) (sym (c .before .number-of .ensures) ∙ c .if1 .left))
+    (passed (c .before .before .check .result) (c .before .before .check .ensures ∙ fits-asked _ _ _ _ _ _ _ (c .before .before .before .is-square .ensures .0)) (sym (c .before .number-of .ensures) ∙ c .if1 .left))
 
 is-square-requires : tie.Need-is-square-requires
 is-square-requires c κs = search needs
@@ -29,7 +29,7 @@ number-of-requires c κs = search needs
 
 returns : tie.Need-returns
 unfolding corrToDistance
-returns c = not-filled (c .before .before .check .result) _ (c .before .before .check .ensures ∙ fits-asked _ _ _ _ _ _ _ (c .before .before .before .is-square .ensures)) _ _ (λ e. c .if1 .taken (c .before .number-of .ensures ∙ e))
+returns c = not-filled (c .before .before .check .result) _ (c .before .before .check .ensures ∙ fits-asked _ _ _ _ _ _ _ (c .before .before .before .is-square .ensures .0)) _ _ (λ e. c .if1 .taken (c .before .number-of .ensures ∙ e))
 
 distance-each-requires : tie.Need-distance-each-requires
 distance-each-requires c κs = eqb-true (length (c .before .before .before .before .before .before .before .args .out .now)) (c .before .before .before .before .before .before .before .args .n * c .before .before .before .before .before .before .before .args .n) (ok (c .before) .fitting) ∙ sym (ok (c .before) .square)
@@ -40,7 +40,7 @@ same-length c = search needs
 returns-2 : tie.Need-returns-2
 unfolding corrToDistance
 returns-2 c =
-    was-filled (c .before .before .before .before .before .before .check .result) _ (c .before .before .before .before .before .before .check .ensures ∙ fits-asked _ _ _ _ _ _ _ (c .before .before .before .before .before .before .before .is-square .ensures)) _ _ (sym (c .before .before .before .before .before .number-of .ensures) ∙ c .before .before .before .before .if1 .left)
+    was-filled (c .before .before .before .before .before .before .check .result) _ (c .before .before .before .before .before .before .check .ensures ∙ fits-asked _ _ _ _ _ _ _ (c .before .before .before .before .before .before .before .is-square .ensures .0)) _ _ (sym (c .before .before .before .before .before .number-of .ensures) ∙ c .before .before .before .before .if1 .left)
     (c .before .before .distance-each .ensures ∙ ap (listed (λ t. distanceOf (cells (c .before .before .before .before .before .before .before .before .before .before .args .book .now) t))) (ok (c .before .before .before .before) .square) ∙ plain-grid distanceOf (c .before .before .before .before .before .before .before .before .before .before .args .book .now) (c .before .before .before .before .before .before .before .before .before .before .args .n))
 
 pub corr-to-distance-spec : {M : Type 1} → statement M

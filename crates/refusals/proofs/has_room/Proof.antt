@@ -6,7 +6,7 @@ use Rattle.refusals.proofs.has_room.Statement.{statement}
 use Rattle.refusals.proofs.has_room.Tie as tie
 
 returns : tie.Need-returns
-returns c = λ h. let z : ⊥ = omega arith in absurd z
+returns c = (λ h. let z : ⊥ = omega arith in absurd z, λ h. refl)
 
 mul-result : tie.Need-mul-result
 mul-result c = omega (arith, mul-le-mul (c .if1 .left) (c .if1 .left))
@@ -21,7 +21,7 @@ add-result : tie.Need-add-result
 add-result c = omega (arith, mul-le-mul (c .if1 .left) (c .if1 .left))
 
 returns-2 : tie.Need-returns-2
-returns-2 c = λ h. refl
+returns-2 c = (λ h. refl, λ h. let z : ⊥ = omega arith in absurd z)
 
 pub has-room-spec : {M : Type 1} → statement M
 has-room-spec =

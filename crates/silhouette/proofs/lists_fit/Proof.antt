@@ -13,7 +13,7 @@ has-room-requires : tie.Need-has-room-requires
 has-room-requires c κs = search needs
 
 returns-3 : tie.Need-returns-3
-returns-3 c = λ h. rw (eq-eqb _ _ (c .before .before .if1 .left), eq-eqb _ _ (c .before .if2 .left)) (c .has-room .ensures h)
+returns-3 c = λ h. rw (eq-eqb _ _ (c .before .before .if1 .left), eq-eqb _ _ (c .before .if2 .left)) (c .has-room .ensures .0 h)
 
 pub lists-fit-spec : {M : Type 1} → statement M
 lists-fit-spec = tie.close (tie.spec returns returns-2 has-room-requires returns-3)

@@ -1,6 +1,6 @@
 use native.Mathlib.Omega.{arith}
 use mathlib.Core.Path.{sym, _∙_}
-use Rattle.stats.specs.Average.{meanOf}
+use Rattle.stats.specs.Average.{exactMean}
 use borrow.Author.Needs.{needs}
 use Rattle.stats.proofs.mean_value.Statement.{statement}
 use Rattle.stats.proofs.mean_value.Tie as tie
@@ -17,7 +17,7 @@ shared-slice-read-result : tie.Need-shared-slice-read-result
 shared-slice-read-result c = omega arith
 
 returns : tie.Need-returns
-unfolding meanOf
+unfolding exactMean
 returns c = rw (sym (c .before .before .is-constant .ensures) ∙ c .before .if1 .taken)
 
 sum-of-requires : tie.Need-sum-of-requires
@@ -27,7 +27,7 @@ count-as-f64-requires : tie.Need-count-as-f64-requires
 count-as-f64-requires c κs = search needs
 
 returns-2 : tie.Need-returns-2
-unfolding meanOf
+unfolding exactMean
 returns-2 c = rw (sym (c .before .before .before .is-constant .ensures) ∙ c .before .before .if1 .left, c .before .sum-of .ensures, c .count-as-f64 .ensures)
 
 pub mean-value-spec : {M : Type 1} → statement M
