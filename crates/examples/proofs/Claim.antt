@@ -8,9 +8,9 @@ use Rattle.sqrt.specs.Root.{root}
 use Rattle.stats.specs.Average.{constant, exactMean, varianceAbout, varianceOf, averaged}
 use Rattle.tstat.specs.Quality.{ratio, tstatOf}
 use Rattle.scores.specs.Scores.{least, scoreOf, scoreFrom}
-use Rattle.silhouette.specs.Leaf.{scoreAt, silhouettesOf}
-use Rattle.examples.specs.Starred.{table, AllHold, answer, given, left}
+use Rattle.silhouette.specs.Leaf.{scoreAt}
+use Rattle.examples.specs.Starred.{table, AllHold, answer, given}
 
 pub examples-hold : AllHold table
-unfolding AllHold answer given left listed firstTo firstFrom when unless refusal silhouettesOf sumTo allTo foldIf root constant exactMean varianceAbout varianceOf averaged ratio tstatOf least scoreOf scoreFrom scoreAt ofBits toBits ofInt add sub mul div lt le eq isNan
+unfolding AllHold answer given listed firstTo firstFrom when unless refusal sumTo allTo foldIf root constant exactMean varianceAbout varianceOf averaged ratio tstatOf least scoreOf scoreFrom scoreAt ofBits toBits ofInt add sub mul div lt le eq isNan
 examples-hold = (refl, (refl, (refl, (refl, (refl, (refl, (refl, (refl, (refl, (refl, (refl, tt)))))))))))

@@ -3,16 +3,16 @@ use Prim.Native.Nat.{ℕ}
 use mathlib.Core.Path.{_≡_}
 use mathlib.Core.Bool.{true, false}
 use mathlib.Core.List.{List, [], _∷_}
-use lib.ListN.{length, replicate}
+use lib.ListN.{length}
 use lib.IntN.{pos, negsuc}
 use lib.Ieee.{Float, inf, fin}
-use Rattle.lists.specs.Lists.{cells}
-use Rattle.lists.specs.Sums.{counted, zero64}
+use Rattle.lists.specs.Lists.{listed, cells, firstFrom}
+use Rattle.lists.specs.Sums.{counted}
 use Rattle.sqrt.specs.Root.{root}
 use Rattle.stats.specs.Average as stats
 use Rattle.tstat.specs.Quality as quality
-use Rattle.refusals.specs.Table.{workDoubles, Worked}
-use Rattle.silhouette.specs.Leaf.{silhouettesOf}
+use Rattle.refusals.specs.Table.{refusal}
+use Rattle.silhouette.specs.Leaf.{scoreAt}
 
 -- which definition is asked, and of what
 pub data Question : Type 0 where
@@ -30,15 +30,16 @@ pub record Answered : Type 0 where
 unfoldable pub given : stats.Averaged → Answered
 given a = record { number = a .number; values = a .values }
 
-unfoldable pub left : Worked → Answered
-left w = record { number = w .answer .number; values = w .out }
-
 unfoldable pub answer : Question → Answered
 answer (the-root x) = record { number = 0; values = root x ∷ [] }
 answer (the-mean xs) = given (stats.mean (cells xs) (length xs))
 answer (the-variance xs ddof) = given (stats.variance (cells xs) (length xs) ddof)
 answer (the-tstat xs) = given (quality.tstat (cells xs) (length xs))
-answer (the-scores pairs labels) = left (silhouettesOf pairs (length labels) labels (replicate (length labels) zero64) (replicate (workDoubles (length labels)) zero64))
+answer (the-scores pairs labels) =
+    record {
+      number = refusal (length pairs) (length labels) (length labels) true (firstFrom (length labels) labels) (length labels) .number;
+      values = listed (scoreAt pairs (length labels) labels) (length labels);
+    }
 
 pub record Example : Type 0 where
   pub asked : Question
