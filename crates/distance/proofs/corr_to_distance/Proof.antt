@@ -1,6 +1,8 @@
 use Prim.Native.Nat.{_*_}
 use mathlib.Core.Path.{_∙_, ap, sym}
+use mathlib.Core.List.{List}
 use lib.ListN.{length}
+use lib.Ieee.{Float}
 use lib.Dec.{eqb}
 use borrow.Author.Tests.{eqb-true}
 use borrow.Author.Needs.{needs}
@@ -31,8 +33,11 @@ returns : tie.Need-returns
 unfolding corrToDistance
 returns c = not-filled (c .before .before .check .result) _ (c .before .before .check .ensures ∙ fits-asked _ _ _ _ _ _ _ (c .before .before .before .is-square .ensures .0)) _ _ (λ e. c .if1 .taken (c .before .number-of .ensures ∙ e))
 
-distance-each-requires : tie.Need-distance-each-requires
-distance-each-requires c κs = eqb-true (length (c .before .before .before .before .before .before .before .args .out .now)) (c .before .before .before .before .before .before .before .args .n * c .before .before .before .before .before .before .before .args .n) (ok (c .before) .fitting) ∙ sym (ok (c .before) .square)
+copy-requires : tie.Need-copy-requires
+copy-requires c κs = ok (c .before) .square ∙ sym (eqb-true (length (c .before .before .before .before .before .before .before .args .out .now)) (c .before .before .before .before .before .before .before .args .n * c .before .before .before .before .before .before .before .args .n) (ok (c .before) .fitting))
+
+to-distances-requires : tie.Need-to-distances-requires
+to-distances-requires c κs = search needs
 
 same-length : tie.Need-same-length
 same-length c = search needs
@@ -40,8 +45,8 @@ same-length c = search needs
 returns-2 : tie.Need-returns-2
 unfolding corrToDistance
 returns-2 c =
-    was-filled (c .before .before .before .before .before .before .check .result) _ (c .before .before .before .before .before .before .check .ensures ∙ fits-asked _ _ _ _ _ _ _ (c .before .before .before .before .before .before .before .is-square .ensures .0)) _ _ (sym (c .before .before .before .before .before .number-of .ensures) ∙ c .before .before .before .before .if1 .left)
-    (c .before .before .distance-each .ensures ∙ ap (listed (λ t. distanceOf (cells (c .before .before .before .before .before .before .before .before .before .before .args .book .now) t))) (ok (c .before .before .before .before) .square) ∙ plain-grid distanceOf (c .before .before .before .before .before .before .before .before .before .before .args .book .now) (c .before .before .before .before .before .before .before .before .before .before .args .n))
+    was-filled (c .before .before .before .before .before .before .before .before .before .before .check .result) _ (c .before .before .before .before .before .before .before .before .before .before .check .ensures ∙ fits-asked _ _ _ _ _ _ _ (c .before .before .before .before .before .before .before .before .before .before .before .is-square .ensures .0)) _ _ (sym (c .before .before .before .before .before .before .before .before .before .number-of .ensures) ∙ c .before .before .before .before .before .before .before .before .if1 .left)
+    (c .before .before .to-distances .ensures ∙ ap (λ (x : List Float). listed (λ t. distanceOf (cells x t)) (length x)) (c .before .before .before .before .before .before .copy .ensures) ∙ ap (listed (λ t. distanceOf (cells (c .before .before .before .before .before .before .before .before .before .before .before .before .before .before .args .book .now) t))) (ok (c .before .before .before .before .before .before .before .before) .square) ∙ plain-grid distanceOf (c .before .before .before .before .before .before .before .before .before .before .before .before .before .before .args .book .now) (c .before .before .before .before .before .before .before .before .before .before .before .before .before .before .args .n))
 
 pub corr-to-distance-spec : {M : Type 1} → statement M
 corr-to-distance-spec =
@@ -51,6 +56,7 @@ corr-to-distance-spec =
     check-requires
     number-of-requires
     returns
-    distance-each-requires
+    copy-requires
+    to-distances-requires
     same-length
     returns-2)
