@@ -5,7 +5,7 @@ use mathlib.Core.Bool.{Bool, true, false, cond}
 use mathlib.Core.List.{List, [], _∷_, map}
 use lib.Dec.{ltb}
 use lib.Ieee.{Float}
-use Rattle.stats.specs.Average.{Averaged, averaged}
+use Rattle.stats.specs.Average.{Averaged, averaged, mostValues}
 
 abbrev pub each : (Float → Float) → Averaged → Averaged
 each g a = record { number = a .number; values = map g (a .values) }
@@ -19,4 +19,4 @@ by-cases-of g false false x = refl
 
 pub each-averaged : (g : Float → Float) (n : ℕ) (none : Bool) (x : Float) → each g (averaged n none x) ≡ averaged n none (g x)
 unfolding averaged
-each-averaged g n none x = by-cases-of g (ltb 65536 n) none x
+each-averaged g n none x = by-cases-of g (ltb mostValues n) none x

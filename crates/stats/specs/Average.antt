@@ -53,10 +53,14 @@ pub record Averaged : Type 0 where
 abbrev pub averagedOf : Average → Averaged
 averagedOf a = record { number = numberOf a; values = valuesOf a }
 
--- x as the average of n values: refused by 4 where they are over 65,536, and no value where there is `none`
+-- the most values that an average is worked out of
+abbrev pub mostValues : ℕ
+mostValues = 65536
+
+-- x as the average of n values: refused by 4 where they are more than that, and no value where there is `none`
 unfoldable pub averaged : ℕ → Bool → Float → Averaged
 averaged n none x =
-    cond (ltb 65536 n) (record { number = 4; values = [] })
+    cond (ltb mostValues n) (record { number = 4; values = [] })
     (record { number = 0; values = cond none [] (x ∷ []) })
 
 -- mean, variance and std_dev: no value for n = 0, and for n at most ddof
