@@ -8,10 +8,10 @@ use native.Mathlib.Omega.{arith}
 use lib.ListN.{length, getD, take, drop, set, length-set, length-take, length-drop, take-append-drop}
 use lib.Seq.{take-set-le, drop-set-add, drop-cons, set-at, take-add, drop-drop, getD-take, getD-drop, ext-getD}
 use Rattle.lists.specs.Lists.{listed, row, part, put, flat}
-use Rattle.lists.proofs.Listed.{writes, writes-front, length-listed, listed-same}
+use Rattle.lists.proofs.Listed.{writes, writes-front, length-listed, listed-same, listed-of}
 use Rattle.lists.proofs.Rows.{row-end}
 use Rattle.lists.proofs.Grid.{row-long, flat-at, listed-append}
-use Rattle.lists.proofs.Parts.{put-length, put-take, put-part, put-drop}
+use Rattle.lists.proofs.Parts.{put-length, put-take, put-part, put-drop, part-length, getD-part}
 
 module _ {A : Type 0} where
   -- d after the stores of f 0, .., f (n - 1) at b, .., b + n - 1
@@ -59,6 +59,10 @@ module _ {A : Type 0} where
   -- the same three areas, as a part that was put
   pub stores-put : (z : A) (b : ℕ) (f : ℕ → A) (n : ℕ) {xs : List A} (d : List A) → xs ≡ stores b f n d → b + n ≤ length d → xs ≡ put b n d (listed f n)
   stores-put z b f n d e h = stores-done z b f n d e h ∙ rw (drop-drop n b d)
+
+  -- the cells of a part, as the part
+  pub listed-part : (z : A) (a k : ℕ) (d : List A) → a + k ≤ length d → listed (λ j. getD d (a + j) z) k ≡ part a k d
+  listed-part z a k d h = sym (listed-of z (λ j. getD d (a + j) z) k (part a k d) (part-length a k d h) (λ j l. getD-part a k d j z l))
 
   -- two parts that were put one behind the other, as one
   pub put-next : (a k j e : ℕ) (xs ys zs : List A) → e ≡ a + k → a + k ≤ length xs → length ys ≡ k → put e j (put a k xs ys) zs ≡ put a (k + j) xs (ys ++ zs)

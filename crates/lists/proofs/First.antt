@@ -47,3 +47,9 @@ first-none p (suc n) h k l =
 pub from-none : (limit : ℕ) (xs : List ℕ) → length xs ≤ firstFrom limit xs → (k : ℕ) → k < length xs → numbers xs k < limit
 unfolding firstFrom
 from-none limit xs h k l = leb-false limit (numbers xs k) (first-none (λ j. leb limit (numbers xs j)) (length xs) h k l)
+
+-- the same places pass
+pub first-same : (p q : ℕ → Bool) (n : ℕ) → ((k : ℕ) → p k ≡ q k) → firstTo p n ≡ firstTo q n
+unfolding firstTo
+first-same p q zero h = refl
+first-same p q (suc n) h = rw (first-same p q n h, h n)

@@ -1,4 +1,5 @@
 -- Laws of the definitions of specs/, for every crate above.
+pub mod Tests
 pub mod Listed
 pub mod First
 pub mod Rows

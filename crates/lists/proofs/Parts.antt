@@ -11,6 +11,14 @@ use lib.Seq.{getD-take, getD-drop, take-suc-set, take-all, take-suc, take-append
 use Rattle.lists.specs.Lists.{part, put}
 
 module _ {A : Type 0} where
+  -- lists that agree up to a place agree up to each place before it
+  pub front-less : (k j : ℕ) (a b : List A) → j ≤ k → take k a ≡ take k b → take j a ≡ take j b
+  front-less k j a b h e = sym (take-take j k a h) ∙ ap (λ (x : List A). take j x) e ∙ take-take j k b h
+
+  -- a part that comes back, at its plain length and with what it holds
+  pub put-same : (a k j : ℕ) (xs : List A) {ys zs : List A} → k ≡ j → ys ≡ zs → put a k xs ys ≡ put a j xs zs
+  put-same a k j xs e f = rw (e, f)
+
   -- a loop that fills from the front: after n turns it is `replicate n v ++ drop n d`
   fill-suc : (n : ℕ) (v : A) (d : List A) → n < length d → set (replicate n v ++ drop n d) n v ≡ replicate (suc n) v ++ drop (suc n) d
   fill-suc n v [] l = absurd (not-suc-le-zero l)

@@ -8,6 +8,7 @@ use native.Mathlib.Nat.{eq-or-lt-of-le}
 use mathlib.Core.Logic.{⊎-elim}
 use lib.Ieee.{Float, add, binary64}
 use Rattle.lists.specs.Sums.{sumTo, allTo, foldIf, countIf}
+use Rattle.lists.proofs.Tests.{both, and-false}
 
 -- one more term
 pub sum-more : (f : ℕ → Float) (i : ℕ) {s : Float} → s ≡ sumTo f i → add binary64 s (f i) ≡ sumTo f (i + 1)
@@ -25,16 +26,19 @@ pub all-more : (p : ℕ → Bool) (i : ℕ) → allTo p i ≡ true → p i ≡ t
 unfolding allTo
 all-more p i h t = rw (add-one, h, t)
 
-and-false : (b : Bool) → false ≡ b && false
-and-false true = refl
-and-false false = refl
-
 -- one place below n fails
 pub all-fails : (p : ℕ → Bool) (n k : ℕ) → k < n → p k ≡ false → false ≡ allTo p n
 unfolding allTo
 all-fails p zero k l e = absurd (omega arith)
 all-fails p (suc n) k l e =
-    ⊎-elim (λ q. rw (← q, e) (and-false (allTo p k))) (λ q. rw (← all-fails p n k q e)) (eq-or-lt-of-le {n = k} {m = n} (omega arith))
+    ⊎-elim (λ q. rw (← q, e) (sym (and-false (allTo p k)))) (λ q. rw (← all-fails p n k q e)) (eq-or-lt-of-le {n = k} {m = n} (omega arith))
+
+-- each place below n passes
+pub all-true : (p : ℕ → Bool) (n : ℕ) → allTo p n ≡ true → (i : ℕ) → i < n → p i ≡ true
+unfolding allTo
+all-true p zero h i l = absurd (omega arith)
+all-true p (suc n) h i l =
+    ⊎-elim (λ q. rw q (both (allTo p n) (p n) h .1)) (λ q. all-true p n (both (allTo p n) (p n) h .0) i q) (eq-or-lt-of-le {n = i} {m = n} (omega arith))
 
 -- a place that counts, and one that does not
 pub fold-in : {A : Type 0} (p : ℕ → Bool) (g : A → ℕ → A) (a : A) (j : ℕ) → p j ≡ true → foldIf p g a (j + 1) ≡ g (foldIf p g a j) j

@@ -1,12 +1,12 @@
 // Filling, copying, searching, reading and summing of lent lists, and tests on doubles: what the crates above share.
 // The inner forms ask for the lengths, which their callers know.
 ghost use mathlib.Core.Path.{_≡_};
-ghost use Prim.Native.Nat.{ℕ, _≤_, _<_, _*_};
+ghost use Prim.Native.Nat.{ℕ, _≤_, _<_, _+_, _*_};
 ghost use mathlib.Core.Bool.{false};
 ghost use lib.ListN.{length, replicate};
 ghost use lib.Ieee.{inf};
 ghost use lib.Ieee.Scale.{finite};
-ghost use Rattle.lists.specs.Lists.{row, cells, cellAt, listed, grid, firstFrom};
+ghost use Rattle.lists.specs.Lists.{row, cells, cellAt, listed, grid, part, put, firstFrom};
 ghost use Rattle.lists.specs.Sums.{counted, sumTo};
 
 // x in each place.
@@ -36,6 +36,28 @@ pub fn copy(from: &[f64], to: &mut [f64])
     let n = from.len();
     for i in 0..n {
         to[i] = from[i];
+    }
+}
+
+pub fn copy_numbers(from: &[usize], to: &mut [usize])
+    requires { ⌜ length (now from) ≡ length (now to) ⌝ }
+    ensures { λ _. ⌜ now (to .exit) ≡ now (from .entry) ⌝ }
+{
+    let n = from.len();
+    for i in 0..n {
+        to[i] = from[i];
+    }
+}
+
+// Cells copied to a place further on in the same list. Inner form: the two places do not overlap.
+pub fn copy_within(xs: &mut [f64], from: usize, to: usize, count: usize)
+    requires { ⌜ (from + count ≤ to) × (to + count ≤ length (now xs)) ⌝ }
+    ensures { λ _. ⌜ now (xs .exit) ≡ put to count (now (xs .entry)) (part from count (now (xs .entry))) ⌝ }
+{
+    for j in 0..count {
+        let cell = from + j;
+        let at = to + j;
+        xs[at] = xs[cell];
     }
 }
 
@@ -89,6 +111,12 @@ pub fn row_buffer() -> [f64; 256]
     ensures { λ r. ⌜ length r ≡ 256 ⌝ }
 {
     [0.0; 256]
+}
+
+pub fn number_buffer() -> [usize; 256]
+    ensures { λ r. ⌜ length r ≡ 256 ⌝ }
+{
+    [0; 256]
 }
 
 // +infinity.

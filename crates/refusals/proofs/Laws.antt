@@ -13,9 +13,7 @@ use lib.Ieee.{Float}
 use Rattle.refusals.specs.Table.{numberOf, refusalOf, Refusal, none, refused, when, unless, refusal, after, Filled, filled, Worked, worked, wiped}
 use Rattle.refusals.specs.declared.Answer.{Answer}
 use Rattle.refusals.specs.declared.Answer.the-variants.{Done, InvalidCorrelationMatrix, TooLarge, CellCount, ListLength, OutOfRange}
-
-impossible : {A : Type 0} → false ≡ true → A
-impossible h = absurd (subst T (sym h) tt)
+use Rattle.lists.proofs.Tests.{impossible, neither, or-true}
 
 -- nothing is refused: the test of each row failed (or held), and nothing is refused below it
 pub when-none : (test : Bool) (q below : Refusal) → eqb (q .number) 0 ≡ false → eqb (when test q below .number) 0 ≡ true → (test ≡ false) × (eqb (below .number) 0 ≡ true)
@@ -27,10 +25,6 @@ pub unless-none : (test : Bool) (q below : Refusal) → eqb (q .number) 0 ≡ fa
 unfolding unless
 unless-none true q below e h = (refl, h)
 unless-none false q below e h = impossible (sym e ∙ h)
-
-neither : (a b : Bool) → a || b ≡ false → (a ≡ false) × (b ≡ false)
-neither true b h = impossible (sym h)
-neither false b h = (refl, h)
 
 -- what holds of the inputs of a call that is not refused
 pub record Accepted (cells n m : ℕ) (fits : Bool) (bad count : ℕ) : Type 0 where
@@ -61,10 +55,6 @@ accepted cells n m fits bad count h =
       fitting = d .0;
       in-range = ltb-false bad count (e .0);
     }
-
-or-true : (b : Bool) → b || true ≡ true
-or-true true = refl
-or-true false = refl
 
 -- over 256 rows are refused whatever else is asked
 pub many-rows : (cells n m : ℕ) (f g : Bool) (bad bad′ count count′ : ℕ) → 256 < m → refusal cells n m f bad count ≡ refusal cells n m g bad′ count′

@@ -57,6 +57,10 @@ refusal cells n m fits bad count =
     (unless fits (refused 6)
     (when (ltb bad count) (record { number = 10; place = bad }) none))))
 
+-- the rows above, and where none of them applies the rows below
+unfoldable pub orElse : Refusal → Refusal → Refusal
+orElse q below = cond (eqb (q .number) 0) below q
+
 -- a list after the call: `new` where nothing is refused, else as it was
 abbrev pub after : {A : Type 0} → Refusal → List A → List A → List A
 after q new old = cond (eqb (q .number) 0) new old
@@ -67,6 +71,13 @@ workDoubles m = 8 * (m * m) + 256 * m
 
 abbrev pub wiped : ℕ → List Float → List Float
 wiped m floats = replicate (workDoubles m) zero64 ++ drop (workDoubles m) floats
+
+-- the whole numbers that it is lent, and that list when its front part is left zero
+abbrev pub workNumbers : ℕ → ℕ
+workNumbers m = 320 * m
+
+abbrev pub wipedNumbers : ℕ → List ℕ → List ℕ
+wipedNumbers m numbers = replicate (workNumbers m) 0 ++ drop (workNumbers m) numbers
 
 -- what a call with one output list gives and leaves
 pub record Filled : Type 0 where

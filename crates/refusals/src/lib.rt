@@ -3,7 +3,7 @@ ghost use mathlib.Core.Path.{_≡_};
 ghost use mathlib.Core.Bool.{false};
 ghost use Prim.Native.Nat.{_≤_, _<_, _*_};
 ghost use lib.Dec.{leb, eqb};
-ghost use Rattle.refusals.specs.Table.{numberOf, placeOf, refusalOf, refusal, workDoubles};
+ghost use Rattle.refusals.specs.Table.{numberOf, placeOf, refusalOf, refusal, workDoubles, workNumbers};
 
 // Done, or the first row of the table that applies.
 pub enum Answer {
@@ -53,7 +53,7 @@ pub fn is_square(length: usize, m: usize) -> bool
     length == m * m
 }
 
-// Whether a working list has room for m names; false for more than 256, where 4 comes first.
+// Whether a working list of doubles has room for m names; false for more than 256, where 4 comes first.
 pub fn has_room(length: usize, m: usize) -> bool
     ensures { λ r. ⌜ (m ≤ 256 → r ≡ leb (workDoubles m) length) × (256 < m → r ≡ false) ⌝ }
 {
@@ -61,6 +61,16 @@ pub fn has_room(length: usize, m: usize) -> bool
         return false;
     }
     8 * (m * m) + 256 * m <= length
+}
+
+// The same of a working list of whole numbers.
+pub fn has_numbers(length: usize, m: usize) -> bool
+    ensures { λ r. ⌜ (m ≤ 256 → r ≡ leb (workNumbers m) length) × (256 < m → r ≡ false) ⌝ }
+{
+    if m > 256 {
+        return false;
+    }
+    320 * m <= length
 }
 
 // The first row that applies: `cells` cells of a book of n columns, of which m rows are read, other lists that fit or
