@@ -1,10 +1,10 @@
 // Squared distances from one item to all, for all items at a time: column by column, four columns a turn, and contiguous
 // over the items. Each item's sum keeps the order of the columns.
 ghost use mathlib.Core.Path.{_≡_};
-ghost use Prim.Native.Nat.{_≤_};
+ghost use Prim.Native.Nat.{_≤_, _<_, _+_, _-_, _*_};
 ghost use lib.ListN.{length};
-ghost use Rattle.lists.specs.Lists.{listed, cells};
-ghost use Rattle.columns.specs.Columns.{added, addedFour, Columns, sumsTo};
+ghost use Rattle.lists.specs.Lists.{listed, cells, part};
+ghost use Rattle.columns.specs.Columns.{added, addedFour, Columns, Tail, sumsTo, sumsFrom};
 
 // One column: to each sum the square of x less the column's cell.
 fn add_column(sums: &mut [f64], column: &[f64], x: f64)
@@ -43,11 +43,21 @@ fn add_four(
     }
 }
 
+// Column c of the items from `from` on.
+fn column_of(across: &[f64], m: usize, c: usize, from: usize) -> &[f64]
+    requires { ⌜ (m ≤ 256) × (length (now across) ≡ m * m) × (c < m) × (from ≤ m) ⌝ }
+    ensures { λ r. ⌜ now r ≡ part (c * m + from) (m - from) (now (across .entry)) ⌝ }
+{
+    let at = c * m + from;
+    let end = c * m + m;
+    &across[at..end]
+}
+
 // Columns by fours, from the first; answers how many were added.
-fn add_fours(own: &[f64], across: &[f64], sums: &mut [f64]) -> usize
-    requires { ⌜ Columns (now own) (now across) (now sums) ⌝ }
-    requires { ⌜ now sums ≡ sumsTo (now own) (now across) 0 ⌝ }
-    ensures { λ r. ⌜ (r ≤ length (now (own .entry))) × (now (sums .exit) ≡ sumsTo (now (own .entry)) (now (across .entry)) r) ⌝ }
+fn add_fours(own: &[f64], across: &[f64], from: usize, sums: &mut [f64]) -> usize
+    requires { ⌜ Tail (now own) (now across) from (now sums) ⌝ }
+    requires { ⌜ now sums ≡ sumsFrom (now own) (now across) from 0 ⌝ }
+    ensures { λ r. ⌜ (r ≤ length (now (own .entry))) × (now (sums .exit) ≡ sumsFrom (now (own .entry)) (now (across .entry)) from r) ⌝ }
 {
     let m = own.len();
     let mut c = 0;
@@ -57,10 +67,10 @@ fn add_fours(own: &[f64], across: &[f64], sums: &mut [f64]) -> usize
         let c3 = c + 3;
         add_four(
             sums,
-            lists::row_of(across, m, c),
-            lists::row_of(across, m, c1),
-            lists::row_of(across, m, c2),
-            lists::row_of(across, m, c3),
+            column_of(across, m, c, from),
+            column_of(across, m, c1, from),
+            column_of(across, m, c2, from),
+            column_of(across, m, c3, from),
             own[c],
             own[c1],
             own[c2],
@@ -71,24 +81,32 @@ fn add_fours(own: &[f64], across: &[f64], sums: &mut [f64]) -> usize
     c
 }
 
-// The columns from the given one on, one by one.
-fn add_rest(own: &[f64], across: &[f64], from: usize, sums: &mut [f64])
-    requires { ⌜ Columns (now own) (now across) (now sums) ⌝ }
-    requires { ⌜ (from ≤ length (now own)) × (now sums ≡ sumsTo (now own) (now across) from) ⌝ }
-    ensures { λ _. ⌜ now (sums .exit) ≡ sumsTo (now (own .entry)) (now (across .entry)) (length (now (own .entry))) ⌝ }
+// The columns from `first` on, one by one.
+fn add_rest(own: &[f64], across: &[f64], from: usize, first: usize, sums: &mut [f64])
+    requires { ⌜ Tail (now own) (now across) from (now sums) ⌝ }
+    requires { ⌜ (first ≤ length (now own)) × (now sums ≡ sumsFrom (now own) (now across) from first) ⌝ }
+    ensures { λ _. ⌜ now (sums .exit) ≡ sumsFrom (now (own .entry)) (now (across .entry)) from (length (now (own .entry))) ⌝ }
 {
     let m = own.len();
-    for c in from..m {
-        add_column(sums, lists::row_of(across, m, c), own[c]);
+    for c in first..m {
+        add_column(sums, column_of(across, m, c, from), own[c]);
     }
 }
 
-// The squared distances from the item whose columns are `own` to each item. Inner form.
+// The squared distances from the item whose columns are `own` to each item from `from` on. Inner form.
+pub fn squared_tail(own: &[f64], across: &[f64], from: usize, sums: &mut [f64])
+    requires { ⌜ Tail (now own) (now across) from (now sums) ⌝ }
+    ensures { λ _. ⌜ now (sums .exit) ≡ sumsFrom (now (own .entry)) (now (across .entry)) from (length (now (own .entry))) ⌝ }
+{
+    lists::fill(sums, 0.0);
+    let c = add_fours(own, across, from, sums);
+    add_rest(own, across, from, c, sums);
+}
+
+// The same to each item. Inner form.
 pub fn squared_row(own: &[f64], across: &[f64], sums: &mut [f64])
     requires { ⌜ Columns (now own) (now across) (now sums) ⌝ }
     ensures { λ _. ⌜ now (sums .exit) ≡ sumsTo (now (own .entry)) (now (across .entry)) (length (now (own .entry))) ⌝ }
 {
-    lists::fill(sums, 0.0);
-    let c = add_fours(own, across, sums);
-    add_rest(own, across, c, sums);
+    squared_tail(own, across, 0, sums);
 }

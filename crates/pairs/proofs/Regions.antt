@@ -13,22 +13,14 @@ use Rattle.lists.specs.Lists.{listed, cells, cellAt, part, put, row, flat, grid
 use Rattle.lists.proofs.Listed.{listed-of, listed-same, getD-listed, length-listed, listed-length}
 use Rattle.lists.proofs.Rows.{row-end}
 use Rattle.lists.proofs.Grid.{cell-below, row-cell, row-long, flat-at, grid-same, listed-append, in-grid}
-use Rattle.lists.proofs.Parts.{part-front, drop-behind, put-take, put-length, put-part, getD-part, getD-front}
+use Rattle.lists.proofs.Parts.{front-less, part-front, drop-behind, put-take, put-length, put-part, getD-part, getD-front}
 use Rattle.lists.proofs.Areas.{put-next, areaTo, area-more, area-front, area-rows, area-length}
 use Rattle.columns.specs.Pair.{squaredAt, pairAt}
 use Rattle.pairs.specs.Pairs.{pairsArea}
-use Rattle.pairs.specs.Regions.{pointsAt, Area, Turned, Summed, Rooted}
-use Rattle.columns.specs.Columns.{Columns, sumsTo}
-use Rattle.columns.proofs.Flip.{pair-flip}
+use Rattle.pairs.specs.Regions.{Area, Turned, Squaring, Summed, Rooted}
+use Rattle.columns.specs.Columns.{Tail, sumsFrom, pointsAt}
+use Rattle.columns.proofs.Flip.{pair-flip, squared-flip}
 use Rattle.columns.proofs.Steps.{all-columns, squared-same, pair-same}
-
--- lists that agree up to a place agree up to each place before it
-front-less : (k j : ℕ) (a b : List Float) → j ≤ k → take k a ≡ take k b → take j a ≡ take j b
-front-less k j a b h e = sym (take-take j k a h) ∙ ap (λ (x : List Float). take j x) e ∙ take-take j k b h
-
--- a part that comes back, at its plain length and with what it holds
-pub put-same : (a k j : ℕ) (xs : List Float) {ys zs : List Float} → k ≡ j → ys ≡ zs → put a k xs ys ≡ put a j xs zs
-put-same a k j xs e f = rw (e, f)
 
 -- a step that keeps what lies before the area it writes keeps what the areas before it hold
 module _ (a d : List Float) (m : ℕ) (l : length a ≡ length d) where
@@ -53,10 +45,18 @@ module _ (a d : List Float) (m : ℕ) (l : length a ≡ length d) where
 
 -- the same in a loop that writes an area row by row
 module _ (d : List Float) (m i : ℕ) where
-  pub turned-rows : (g : ℕ → ℕ → Float) → Turned d m → i ≤ m → {a : List Float} → a ≡ areaTo (2 * (m * m)) g m i d → Turned a m
-  turned-rows g t h {a} e =
+  pub squaring-rows : Turned d m → i < m → {a : List Float} → a ≡ areaTo (2 * (m * m)) (squaredAt (pointsAt d m) m) m i d → Squaring a m i
+  squaring-rows t h {a} e =
+      let g = squaredAt (pointsAt d m) m in
       let fits : 2 * (m * m) + m * m ≤ length d = omega (arith, t .four .size) in
-      turned-kept a d m (area-length (2 * (m * m)) g m i d e fits h) (area-front (2 * (m * m)) g m i d e fits h) t
+      let front = area-front (2 * (m * m)) g m i d e fits (omega arith) in
+      record {
+        turned = turned-kept a d m (area-length (2 * (m * m)) g m i d e fits (omega arith)) front t;
+        within = h;
+        rows =
+            area-rows (2 * (m * m)) g m i d e fits (omega arith)
+            ∙ ap (λ (x : List Float). listed (flat (squaredAt (cellAt x m) m) m) (i * m)) (sym (front-less (2 * (m * m)) (m * m) a d (omega arith) front));
+      }
 
   pub rooted-rows : Summed d m → i < m → {a : List Float} → a ≡ areaTo (3 * (m * m)) (pairAt (pointsAt d m) m) m i d → Rooted a m i
   rooted-rows s h {a} e =
@@ -87,7 +87,7 @@ turned-row a m i h =
     let s : i + j * m ≡ j * m + i = omega arith in
     ap (cells a) s ∙ sym (getD-take (m * m) a (j * m + i) nan (cell-below j i m l h)))
 
--- row i of the squared pair distances, from the first two areas
+-- row i of the squared pair distances from column i on, from the first two areas
 module _ (area : List Float) (m i : ℕ) (t : Turned area m) (h : i < m) {own : List Float} (r : own ≡ row area m i) where
   own-row : own ≡ listed (pointsAt area m i) m
   own-row =
@@ -100,71 +100,99 @@ module _ (area : List Float) (m i : ℕ) (t : Turned area m) (h : i < m) {own : 
   second : part (m * m) (m * m + m * m - m * m) area ≡ grid (λ a b. pointsAt area m b a) m
   second = let k : m * m + m * m - m * m ≡ m * m = omega arith in rw k (t .across)
 
-  pub columns : {sums : List Float} → length sums ≡ m → Columns own (part (m * m) (m * m + m * m - m * m) area) sums
+  pub columns : {sums : List Float} → length sums ≡ m - i → Tail own (part (m * m) (m * m + m * m - m * m) area) i sums
   columns l =
       record {
         few = rw own-length (t .four .few);
         square = listed-length (flat (λ a b. pointsAt area m b a) m) (m * m) second ∙ rw own-length;
-        sums-length = l ∙ sym own-length;
+        within = rw own-length (omega arith);
+        sums-length = l ∙ rw own-length;
       }
 
-  pub squared-item-is : sumsTo own (part (m * m) (m * m + m * m - m * m) area) (length own) ≡ listed (squaredAt (pointsAt area m) m i) m
-  squared-item-is = all-columns (pointsAt area m) m i own-row second h
+  pub squared-item-is : sumsFrom own (part (m * m) (m * m + m * m - m * m) area) i (length own) ≡ listed (λ j. squaredAt (pointsAt area m) m i (i + j)) (m - i)
+  squared-item-is = all-columns (pointsAt area m) m i i own-row second h
 
--- row i of the pair distances: the cells that are gathered, and the roots behind them
-module _ (area : List Float) (m i : ℕ) (r : Rooted area m i) where
-  abbrev here : ℕ
-  here = 3 * (m * m) + i * m
-
-  rooted-fits : here + m ≤ length area
-  rooted-fits = omega (arith, row-end i m (r .within), r .summed .four .size)
-
+-- row i, from b on, of a matrix that is its own mirror: the cells that are gathered from the rows above, and the rest behind them
+module _ (g : ℕ → ℕ → Float) (flip : (a c : ℕ) → g a c ≡ g c a) (b m i : ℕ) (area : List Float) (within : i < m) (fits : b + i * m + m ≤ length area)
+    (rows : part b (i * m) area ≡ listed (flat g m) (i * m)) where
   -- a cell of column i above row i
-  pub above : (j : ℕ) → j < i → 3 * (m * m) + i + j * m < here
-  above j l = omega (arith, mul-le-mul-right m l, suc-mul j m, r .within)
+  pub above : (j : ℕ) → j < i → b + i + j * m < b + i * m
+  above j l = omega (arith, mul-le-mul-right m l, suc-mul j m)
 
-  gathered : listed (λ j. cells area (3 * (m * m) + i + j * m)) i ≡ listed (pairAt (pointsAt area m) m i) i
+  gathered : listed (λ j. cells area (b + i + j * m)) i ≡ listed (g i) i
   gathered =
-      listed-same nan (λ j. cells area (3 * (m * m) + i + j * m)) (pairAt (pointsAt area m) m i) i
+      listed-same nan (λ j. cells area (b + i + j * m)) (g i) i
       (λ j l.
-      let s : 3 * (m * m) + i + j * m ≡ 3 * (m * m) + (j * m + i) = omega arith in
+      let s : b + i + j * m ≡ b + (j * m + i) = omega arith in
       let q : j * m + i < i * m = omega (arith, above j l) in
-      ap (cells area) s ∙ sym (getD-part (3 * (m * m)) (i * m) area (j * m + i) nan q) ∙ ap (λ (x : List Float). getD x (j * m + i) nan) (r .pairs)
-      ∙ getD-listed (flat (pairAt (pointsAt area m) m) m) (i * m) (j * m + i) nan q ∙ flat-at (pairAt (pointsAt area m) m) m j i (r .within)
-      ∙ pair-flip (pointsAt area m) m j i)
+      ap (cells area) s ∙ sym (getD-part b (i * m) area (j * m + i) nan q) ∙ ap (λ (x : List Float). getD x (j * m + i) nan) rows
+      ∙ getD-listed (flat g m) (i * m) (j * m + i) nan q ∙ flat-at g m j i within ∙ flip j i)
 
-  module _ {a : List Float} (e : a ≡ put here i area (listed (λ j. cells area (3 * (m * m) + i + j * m)) i)) where
-    first-fits : here + i ≤ length area
-    first-fits = omega (arith, rooted-fits, r .within)
+  module _ {a : List Float} (e : a ≡ put (b + i * m) i area (listed (λ j. cells area (b + i + j * m)) i)) where
+    first-fits : b + i * m + i ≤ length area
+    first-fits = omega (arith, fits)
 
-    first-length : length (listed (λ j. cells area (3 * (m * m) + i + j * m)) i) ≡ i
-    first-length = length-listed (λ j. cells area (3 * (m * m) + i + j * m)) i
+    first-length : length (listed (λ j. cells area (b + i + j * m)) i) ≡ i
+    first-length = length-listed (λ j. cells area (b + i + j * m)) i
 
     pub gathered-length : length a ≡ length area
-    gathered-length = rw e (put-length here i area (listed (λ j. cells area (3 * (m * m) + i + j * m)) i) first-fits first-length)
+    gathered-length = rw e (put-length (b + i * m) i area (listed (λ j. cells area (b + i + j * m)) i) first-fits first-length)
 
-    gathered-front : take here a ≡ take here area
-    gathered-front = rw e (put-take here i area (listed (λ j. cells area (3 * (m * m) + i + j * m)) i) first-fits first-length here (omega arith))
+    pub gathered-front : take (b + i * m) a ≡ take (b + i * m) area
+    gathered-front = rw e (put-take (b + i * m) i area (listed (λ j. cells area (b + i + j * m)) i) first-fits first-length (b + i * m) (omega arith))
 
-    roots : listed (λ j. root (cells a (2 * (m * m) + i * m + i + j))) (m - i) ≡ listed (λ j. pairAt (pointsAt area m) m i (i + j)) (m - i)
-    unfolding pairAt
-    roots =
-        listed-same nan (λ j. root (cells a (2 * (m * m) + i * m + i + j))) (λ j. root (squaredAt (pointsAt area m) m i (i + j))) (m - i)
-        (λ j l.
-        let n : i + j < m = omega (arith, r .within) in
-        let s : 2 * (m * m) + i * m + i + j ≡ 2 * (m * m) + (i * m + (i + j)) = omega arith in
-        let c = cell-below i (i + j) m (r .within) n in
-        ap root
-        (getD-front here (2 * (m * m) + i * m + i + j) a area nan (omega (arith, c)) gathered-front ∙ ap (cells area) s
-        ∙ sym (getD-part (2 * (m * m)) (m * m) area (i * m + (i + j)) nan c) ∙ in-grid (squaredAt (pointsAt area m) m) m i (i + j) nan (r .summed .squares) (r .within) n))
+    pub mirrored : {rest : List Float} → rest ≡ listed (λ j. g i (i + j)) (m - i) → put (b + i * m + i) (m - i) a rest ≡ put (b + i * m) m area (listed (g i) m)
+    mirrored {rest} q =
+        let s : i + (m - i) ≡ m = omega arith in
+        let p : a ≡ put (b + i * m) i area (listed (g i) i) = e ∙ ap (λ (x : List Float). put (b + i * m) i area x) gathered in
+        rw (q, p) (put-next (b + i * m) i (m - i) (b + i * m + i) area (listed (g i) i) (listed (λ j. g i (i + j)) (m - i)) refl first-fits (length-listed (g i) i)
+        ∙ rw (listed-append (g i) i (m - i), s))
 
-    pub pair-row-is : put (here + i) (m - i) a (listed (λ j. root (cells a (2 * (m * m) + i * m + i + j))) (m - i)) ≡ put here m area (listed (pairAt (pointsAt area m) m i) m)
+-- the roots behind the pair distances that are gathered
+module _ (area : List Float) (m i : ℕ) (r : Rooted area m i) where
+  pub rooted-fits : 3 * (m * m) + i * m + m ≤ length area
+  rooted-fits = omega (arith, row-end i m (r .within), r .summed .four .size)
+
+  pub roots : (a : List Float) → take (3 * (m * m) + i * m) a ≡ take (3 * (m * m) + i * m) area
+      → listed (λ j. root (cells a (2 * (m * m) + i * m + i + j))) (m - i) ≡ listed (λ j. pairAt (pointsAt area m) m i (i + j)) (m - i)
+  unfolding pairAt
+  roots a front =
+      listed-same nan (λ j. root (cells a (2 * (m * m) + i * m + i + j))) (λ j. root (squaredAt (pointsAt area m) m i (i + j))) (m - i)
+      (λ j l.
+      let n : i + j < m = omega (arith, r .within) in
+      let s : 2 * (m * m) + i * m + i + j ≡ 2 * (m * m) + (i * m + (i + j)) = omega arith in
+      let c = cell-below i (i + j) m (r .within) n in
+      ap root
+      (getD-front (3 * (m * m) + i * m) (2 * (m * m) + i * m + i + j) a area nan (omega (arith, c)) front ∙ ap (cells area) s
+      ∙ sym (getD-part (2 * (m * m)) (m * m) area (i * m + (i + j)) nan c) ∙ in-grid (squaredAt (pointsAt area m) m) m i (i + j) nan (r .summed .squares) (r .within) n))
+
+  pub pairs-above : (j : ℕ) → j < i → 3 * (m * m) + i + j * m < 3 * (m * m) + i * m
+  pairs-above = above (pairAt (pointsAt area m) m) (pair-flip (pointsAt area m) m) (3 * (m * m)) m i area (r .within) rooted-fits (r .pairs)
+
+  module _ {a : List Float} (e : a ≡ put (3 * (m * m) + i * m) i area (listed (λ j. cells area (3 * (m * m) + i + j * m)) i)) where
+    pub pairs-length : length a ≡ length area
+    pairs-length = gathered-length (pairAt (pointsAt area m) m) (pair-flip (pointsAt area m) m) (3 * (m * m)) m i area (r .within) rooted-fits (r .pairs) e
+
+    pub pair-row-is : put (3 * (m * m) + i * m + i) (m - i) a (listed (λ j. root (cells a (2 * (m * m) + i * m + i + j))) (m - i)) ≡ put (3 * (m * m) + i * m) m area (listed (pairAt (pointsAt area m) m i) m)
     pair-row-is =
-        let f = pairAt (pointsAt area m) m i in
-        let s : i + (m - i) ≡ m = omega (arith, r .within) in
-        let b : a ≡ put here i area (listed f i) = e ∙ ap (λ (x : List Float). put here i area x) gathered in
-        rw (roots, b) (put-next here i (m - i) (here + i) area (listed f i) (listed (λ j. f (i + j)) (m - i)) refl first-fits (length-listed f i)
-        ∙ rw (listed-append f i (m - i), s))
+        let front = gathered-front (pairAt (pointsAt area m) m) (pair-flip (pointsAt area m) m) (3 * (m * m)) m i area (r .within) rooted-fits (r .pairs) e in
+        mirrored (pairAt (pointsAt area m) m) (pair-flip (pointsAt area m) m) (3 * (m * m)) m i area (r .within) rooted-fits (r .pairs) e (roots a front)
+
+-- the squared distances behind those that are gathered
+module _ (area : List Float) (m i : ℕ) (q : Squaring area m i) where
+  pub squaring-fits : 2 * (m * m) + i * m + m ≤ length area
+  squaring-fits = omega (arith, row-end i m (q .within), q .turned .four .size)
+
+  pub squares-above : (j : ℕ) → j < i → 2 * (m * m) + i + j * m < 2 * (m * m) + i * m
+  squares-above = above (squaredAt (pointsAt area m) m) (squared-flip (pointsAt area m) m) (2 * (m * m)) m i area (q .within) squaring-fits (q .rows)
+
+  module _ {a : List Float} (e : a ≡ put (2 * (m * m) + i * m) i area (listed (λ j. cells area (2 * (m * m) + i + j * m)) i)) where
+    pub squares-length : length a ≡ length area
+    squares-length = gathered-length (squaredAt (pointsAt area m) m) (squared-flip (pointsAt area m) m) (2 * (m * m)) m i area (q .within) squaring-fits (q .rows) e
+
+    pub square-row-is : {rest : List Float} → rest ≡ listed (λ j. squaredAt (pointsAt area m) m i (i + j)) (m - i)
+        → put (2 * (m * m) + i * m + i) (m - i) a rest ≡ put (2 * (m * m) + i * m) m area (listed (squaredAt (pointsAt area m) m i) m)
+    square-row-is = mirrored (squaredAt (pointsAt area m) m) (squared-flip (pointsAt area m) m) (2 * (m * m)) m i area (q .within) squaring-fits (q .rows) e
 
 -- items whose columns agree have the same areas
 pub pairs-same : (x y : ℕ → ℕ → Float) (m : ℕ) → ((a b : ℕ) → a < m → b < m → x a b ≡ y a b) → pairsArea x m ≡ pairsArea y m
@@ -227,6 +255,15 @@ module _ (d : List Float) (m : ℕ) (q : Area d m) where
                 rw f (put-part (2 * (m * m)) (m * m) a (grid (squaredAt (pointsAt a m) m) m) third-fits third-length)
                 ∙ ap (λ (x : List Float). grid (squaredAt (cellAt x m) m) m) (sym third-front);
           }
+
+      -- the points and their transpose stand as they were
+      pub third-turned : Turned b m
+      third-turned =
+          turned-kept b a m (rw f (put-length (2 * (m * m)) (m * m) a (grid (squaredAt (pointsAt a m) m) m) third-fits third-length))
+          (rw f (put-take (2 * (m * m)) (m * m) a (grid (squaredAt (pointsAt a m) m) m) third-fits third-length (2 * (m * m)) (omega arith))) second-made
+
+      pub points-kept : take (m * m) b ≡ take (m * m) d
+      points-kept = third-front ∙ second-front
 
       pub all-made : {c : List Float} → c ≡ put (3 * (m * m)) (m * m) b (grid (pairAt (pointsAt b m) m) m) → c ≡ pairsArea (cellAt d m) m
       unfolding pairsArea

@@ -2,14 +2,11 @@
 use Prim.Native.Nat.{ℕ, _*_, _<_, _≤_}
 use mathlib.Core.Path.{_≡_}
 use mathlib.Core.List.{List}
-use lib.ListN.{length, take}
+use lib.ListN.{length}
 use lib.Ieee.{Float}
-use Rattle.lists.specs.Lists.{cellAt, part, flat, grid, listed}
+use Rattle.lists.specs.Lists.{part, flat, grid, listed}
 use Rattle.columns.specs.Pair.{squaredAt, pairAt}
-
--- the columns of the m items, which stand in the first area
-abbrev pub pointsAt : List Float → ℕ → ℕ → ℕ → Float
-pointsAt area m = cellAt (take (m * m) area) m
+use Rattle.columns.specs.Columns.{pointsAt}
 
 -- a list of four areas of m by m cells
 pub record Area (area : List Float) (m : ℕ) : Type 0 where
@@ -22,7 +19,13 @@ pub record Turned (area : List Float) (m : ℕ) : Type 0 where
   pub four : Area area m
   pub across : part (m * m) (m * m) area ≡ grid (λ i j. pointsAt area m j i) m
 
--- the same, with the squared pair distances in the third area
+-- the same, with the first i rows of the squared pair distances in the third area
+pub record Squaring (area : List Float) (m i : ℕ) : Type 0 where
+  pub turned : Turned area m
+  pub within : i < m
+  pub rows : part (2 * (m * m)) (i * m) area ≡ listed (flat (squaredAt (pointsAt area m) m) m) (i * m)
+
+-- the same, with all of them
 pub record Summed (area : List Float) (m : ℕ) : Type 0 where
   pub four : Area area m
   pub squares : part (2 * (m * m)) (m * m) area ≡ grid (squaredAt (pointsAt area m) m) m

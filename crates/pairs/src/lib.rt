@@ -1,14 +1,15 @@
 // Distances between the rows of a matrix of m by m points. The work is done in one list of four areas of m by m cells:
 // the points, their transpose, the squared pair distances, and the pair distances.
 ghost use mathlib.Core.Path.{_≡_};
-ghost use Prim.Native.Nat.{ℕ, _<_, _≤_, _+_, _*_};
-ghost use lib.ListN.{length};
+ghost use Prim.Native.Nat.{ℕ, _<_, _≤_, _+_, _-_, _*_};
+ghost use lib.ListN.{length, take};
 ghost use Rattle.sqrt.specs.Root.{root};
 ghost use Rattle.lists.specs.Lists.{listed, cells, cellAt, put, grid};
 ghost use Rattle.distance.specs.Distance.{Readable, distAt};
 ghost use Rattle.columns.specs.Pair.{squaredAt, pairAt};
 ghost use Rattle.pairs.specs.Pairs.{pairsArea};
-ghost use Rattle.pairs.specs.Regions.{pointsAt, Area, Turned, Summed, Rooted};
+ghost use Rattle.pairs.specs.Regions.{Area, Turned, Squaring, Summed, Rooted};
+ghost use Rattle.columns.specs.Columns.{pointsAt};
 
 // Cells that lie `step` apart, copied one behind the other to a place further on in the same list. Inner form, as all functions here.
 fn gather(area: &mut [f64], from: usize, step: usize, to: usize, count: usize)
@@ -46,34 +47,39 @@ fn transpose(area: &mut [f64], m: usize)
     }
 }
 
-// The squared distances of item i to each item.
+// The squared distances of item i to each item from i on.
 fn squared_item(area: &[f64], m: usize, i: usize, sums: &mut [f64])
-    requires { ⌜ Turned (now area) m × (i < m) × (length (now sums) ≡ m) ⌝ }
-    ensures { λ _. ⌜ now (sums .exit) ≡ listed (squaredAt (pointsAt (now (area .entry)) m) m i) m ⌝ }
+    requires { ⌜ Turned (now area) m × (i < m) × (length (now sums) ≡ m - i) ⌝ }
+    ensures { λ _. ⌜ now (sums .exit) ≡ listed (λ j. squaredAt (pointsAt (now (area .entry)) m) m i (i + j)) (m - i) ⌝ }
 {
     let second = m * m;
     let third = second + second;
-    columns::squared_row(lists::row_of(area, m, i), &area[second..third], sums);
+    columns::squared_tail(lists::row_of(area, m, i), &area[second..third], i, sums);
 }
 
-// Row i of the squared pair distances: worked out in `sums`, since the list is read meanwhile.
+// Row i of the squared pair distances: the cells before column i are those of column i in the rows above. The others are
+// worked out in `sums`, since the list is read meanwhile.
 fn square_row(area: &mut [f64], m: usize, i: usize, sums: &mut [f64])
-    requires { ⌜ Turned (now area) m × (i < m) × (length (now sums) ≡ m) ⌝ }
+    requires { ⌜ Squaring (now area) m i × (length (now sums) ≡ m - i) ⌝ }
     ensures { λ _. ⌜ now (area .exit) ≡ put (2 * (m * m) + i * m) m (now (area .entry)) (listed (squaredAt (pointsAt (now (area .entry)) m) m i) m) ⌝ }
 {
     squared_item(area, m, i, sums);
-    let at = 2 * (m * m) + i * m;
+    let third = 2 * (m * m);
+    let at = third + i * m;
+    gather(area, third + i, m, at, i);
+    let from = at + i;
     let end = at + m;
-    lists::copy(sums, &mut area[at..end]);
+    lists::copy(sums, &mut area[from..end]);
 }
 
-// The squared pair distances, row by row.
+// The squared pair distances, row by row, each pair worked out once.
 fn square_rows(area: &mut [f64], m: usize, sums: &mut [f64])
     requires { ⌜ Turned (now area) m × (length (now sums) ≡ m) ⌝ }
     ensures { λ _. ⌜ now (area .exit) ≡ put (2 * (m * m)) (m * m) (now (area .entry)) (grid (squaredAt (pointsAt (now (area .entry)) m) m) m) ⌝ }
 {
     for i in 0..m {
-        square_row(area, m, i, sums);
+        let tail = m - i;
+        square_row(area, m, i, &mut sums[..tail]);
     }
 }
 
@@ -106,6 +112,15 @@ fn root_all(area: &mut [f64], m: usize)
     for i in 0..m {
         pair_row(area, m, i);
     }
+}
+
+// The second and the third area, from the points in the first: what k-means reads. Inner form.
+pub fn squares_in(area: &mut [f64], m: usize)
+    requires { ⌜ Area (now area) m ⌝ }
+    ensures { λ _. ⌜ Turned (now (area .exit)) m × Summed (now (area .exit)) m × (take (m * m) (now (area .exit)) ≡ take (m * m) (now (area .entry))) ⌝ }
+{
+    transpose(area, m);
+    square_all(area, m);
 }
 
 // The other three areas, from the points in the first. Inner form.

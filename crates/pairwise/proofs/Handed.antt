@@ -16,6 +16,7 @@ use Rattle.refusals.specs.Table.{workDoubles, wiped}
 use Rattle.columns.specs.Pair.{squaredAt, pairAt}
 use Rattle.pairs.specs.Pairs.{pairsArea}
 use Rattle.pairwise.specs.Leaves.{listsFit, Fitting}
+use Rattle.lists.proofs.Tests.{both}
 
 -- the pair distances in a longer list that begins with the four areas, and what lies behind the front part
 module _ (x : ℕ → ℕ → Float) (m : ℕ) (d : List Float) {a : List Float} (e : a ≡ pairsArea x m ++ drop (4 * (m * m)) d) where
@@ -36,11 +37,6 @@ module _ (x : ℕ → ℕ → Float) (m : ℕ) (d : List Float) {a : List Float}
   pub wiped-same : wiped m a ≡ wiped m d
   wiped-same =
       rw (drop-behind (4 * (m * m)) (workDoubles m) a d (omega arith) (rw e (drop-at (pairsArea x m) (drop (4 * (m * m)) d) (4 * (m * m)) pairs-length)))
-
-both : (a b : Bool) → a && b ≡ true → (a ≡ true) × (b ≡ true)
-both true true h = (refl, refl)
-both true false h = absurd (subst T (sym h) tt)
-both false b h = absurd (subst T (sym h) tt)
 
 -- lists that the checks have passed
 pub fitting : (m : ℕ) (out floats : List Float) → 2 ≤ m → m ≤ 256 → listsFit m (length out) (length floats) ≡ true → Fitting m out floats

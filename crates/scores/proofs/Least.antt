@@ -12,10 +12,7 @@ use lib.Ieee.{Float, fin, inf, nan, isNan, ofInt, add, div, lt, binary64}
 use Rattle.lists.specs.Sums.{zero64, counted, foldIf}
 use Rattle.lists.proofs.Sums.{fold-same}
 use Rattle.scores.specs.Scores.{member, groupSum, groupCount, least, lesser, scoreOf, scoreFrom, silhouette}
-
-or-true : (b : Bool) → b || true ≡ true
-or-true true = refl
-or-true false = refl
+use Rattle.lists.proofs.Tests.{or-true}
 
 module _ (s : ℕ → Float) (c : ℕ → ℕ) (own : ℕ) where
   pub least-own : (l : ℕ) → l ≡ own → least s c own l ≡ least s c own (l + 1)

@@ -19,14 +19,7 @@ use Rattle.lists.proofs.Sums.{fold-in, fold-out, fold-same}
 use Rattle.lists.proofs.Grid.{row-cell}
 use Rattle.scores.specs.Scores.{member}
 use Rattle.scores.specs.Groups.{distance, groupSize}
-
-and-false : (b : Bool) → b && false ≡ false
-and-false true = refl
-and-false false = refl
-
-and-true : (b : Bool) → b && true ≡ b
-and-true true = refl
-and-true false = refl
+use Rattle.lists.proofs.Tests.{and-false, and-true}
 
 module _ (label : ℕ → ℕ) where
   member-self : (i l j : ℕ) → j ≡ i → member label i l j ≡ false

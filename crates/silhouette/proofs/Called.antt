@@ -22,6 +22,7 @@ use Rattle.scores.specs.Scores.{silhouette}
 use Rattle.silhouette.specs.Leaf.{scoreAt, listsFit}
 use Rattle.scores.specs.Groups.{distance, Shape, scoresAcross}
 use Rattle.scores.proofs.Least.{score-same}
+use Rattle.lists.proofs.Tests.{both}
 
 -- The pair distances transposed, at the front of the working list.
 module _ (pairs : List Float) (n : ℕ) (labels : List ℕ) (floats : List Float) (named : length labels ≡ n) (room : workDoubles n ≤ length floats)
@@ -60,10 +61,6 @@ module _ (pairs : List Float) (n : ℕ) (labels : List ℕ) (floats : List Float
       (rw (front, named) at e)
       ∙ listed-same nan (λ i. silhouette (distance turned n i) (numbers labels) n i) (λ i. silhouette (cellAt pairs n i) (numbers labels) n i) n
       (λ i q. score-same (distance turned n i) (cellAt pairs n i) (numbers labels) n i (λ j b. in-grid (λ r s. cellAt pairs n s r) n j i nan is b q))
-
-both : (a b : Bool) → a && b ≡ true → (a ≡ true) × (b ≡ true)
-both true b h = (refl, h)
-both false b h = absurd (subst T (sym h) tt)
 
 -- what holds of the lists of a call that is not refused
 pub ready : (a : Answer) (pairs : List Float) (n : ℕ) (labels : List ℕ) (scores floats : List Float)

@@ -1,26 +1,23 @@
-use Prim.Native.Nat.{_-_, _<_, _≤_, ℕ}
+use Prim.Native.Nat.{_*_, _+_, _-_, _<_, _≤_, ℕ}
 use mathlib.Core.Path.{_∙_, _≡_, refl, sym}
 use native.Mathlib.Omega.{arith}
 use lib.ListN.{length}
 use borrow.Author.Needs.{needs}
-use Rattle.lists.specs.Lists.{row}
+use Rattle.lists.specs.Lists.{part}
+use Rattle.columns.specs.Columns.{sumsFrom}
 use Rattle.lists.proofs.Listed.{listed-length}
-use Rattle.lists.proofs.Grid.{row-long}
-use Rattle.columns.specs.Columns.{sumsTo}
-use Rattle.columns.proofs.Steps.{four-added}
+use Rattle.columns.proofs.Steps.{column-length, four-added}
 use Rattle.columns.proofs.add_fours.Statement.{statement}
 use Rattle.columns.proofs.add_fours.Tie as tie
 
 abbrev Inv-loop : tie.InvT-loop
-Inv-loop own across sums₀ m c₀ sums c = (m ≡ length own) × (c ≤ m) × (length sums ≡ m) × (sums ≡ sumsTo own across c)
+Inv-loop own across from sums₀ m c₀ sums c = (m ≡ length own) × (c ≤ m) × (length sums ≡ m - from) × (sums ≡ sumsFrom own across from c)
 
 abbrev μ-loop : tie.MeasureT-loop
-μ-loop own across sums₀ m c₀ sums c = m - c
+μ-loop own across from sums₀ m c₀ sums c = m - c
 
 loop-holds : tie.Need-loop-holds Inv-loop μ-loop
-loop-holds c =
-    let s = c .before .before .before in
-    (refl, search needs, s .pre .0 .sums-length, s .pre .1)
+loop-holds c = (refl, omega arith, c .before .before .before .pre .0 .sums-length, c .before .before .before .pre .1)
 
 add-loop : tie.Need-add-loop Inv-loop μ-loop
 add-loop c = omega arith
@@ -34,17 +31,17 @@ add-c2 c = omega arith
 add-c3 : tie.Need-add-c3 Inv-loop μ-loop
 add-c3 c = omega arith
 
-row-of-requires : tie.Need-row-of-requires Inv-loop μ-loop
-row-of-requires c κs = let p = c .before .before .before .before .before .before .pre .0 in (p .few, omega (arith, p .square), omega arith)
+column-of-requires : tie.Need-column-of-requires Inv-loop μ-loop
+column-of-requires c κs = let p = c .before .before .before .before .before .before .pre .0 in (p .few, p .square, omega arith, p .within)
 
-row-of-requires-2 : tie.Need-row-of-requires-2 Inv-loop μ-loop
-row-of-requires-2 c κs = let p = c .before .before .before .before .before .before .before .pre .0 in (p .few, omega (arith, p .square), omega arith)
+column-of-requires-2 : tie.Need-column-of-requires-2 Inv-loop μ-loop
+column-of-requires-2 c κs = let p = c .before .before .before .before .before .before .before .pre .0 in (p .few, p .square, omega arith, p .within)
 
-row-of-requires-3 : tie.Need-row-of-requires-3 Inv-loop μ-loop
-row-of-requires-3 c κs = let p = c .before .before .before .before .before .before .before .before .pre .0 in (p .few, omega (arith, p .square), omega arith)
+column-of-requires-3 : tie.Need-column-of-requires-3 Inv-loop μ-loop
+column-of-requires-3 c κs = let p = c .before .before .before .before .before .before .before .before .pre .0 in (p .few, p .square, omega arith, p .within)
 
-row-of-requires-4 : tie.Need-row-of-requires-4 Inv-loop μ-loop
-row-of-requires-4 c κs = let p = c .before .before .before .before .before .before .before .before .before .pre .0 in (p .few, omega (arith, p .square), omega arith)
+column-of-requires-4 : tie.Need-column-of-requires-4 Inv-loop μ-loop
+column-of-requires-4 c κs = let p = c .before .before .before .before .before .before .before .before .before .pre .0 in (p .few, p .square, omega arith, p .within)
 
 mul-add-four : tie.Need-mul-add-four Inv-loop μ-loop
 mul-add-four c = omega arith
@@ -72,15 +69,14 @@ shared-slice-read-add-four-4 c = omega arith
 
 add-four-requires : tie.Need-add-four-requires Inv-loop μ-loop
 add-four-requires c κs =
-    let s = c .before .before .before .before .before .before .before .before .before .before .before .before .before .before in
+    let s = c .before .before .before .before .before .before .before .before .before .before .before .before .before .before .pre .0 in
     let l = c .before .before .before .before .before .before .before .before .before .before .loop in
     let t = c .before .before .before .before .before .before .before .before .before .loop-test .taken in
-    let n = length (s .args .own .now) in
-    let long : (k : ℕ) → k < n → length (row (s .args .across .now) n k) ≡ length (l .sums) = λ k h. row-long (s .args .across .now) n k (omega (arith, s .pre .0 .square)) h ∙ sym (l .inv .2) in (
-      rw (c .before .before .before .before .before .before .before .row-of .ensures) (long _ (omega arith)),
-      rw (c .before .before .before .before .before .before .row-of2 .ensures) (long _ (omega arith)),
-      rw (c .before .before .before .before .before .row-of3 .ensures) (long _ (omega arith)),
-      rw (c .before .before .before .before .row-of4 .ensures) (long _ (omega arith)),
+    let long : (k : ℕ) → k < length (c .before .before .before .before .before .before .before .before .before .before .before .before .before .before .args .own .now) → length (part (k * length (c .before .before .before .before .before .before .before .before .before .before .before .before .before .before .args .own .now) + c .before .before .before .before .before .before .before .before .before .before .before .before .before .before .args .from) (length (c .before .before .before .before .before .before .before .before .before .before .before .before .before .before .args .own .now) - c .before .before .before .before .before .before .before .before .before .before .before .before .before .before .args .from) (c .before .before .before .before .before .before .before .before .before .before .before .before .before .before .args .across .now)) ≡ length (l .sums) = λ k h. column-length (c .before .before .before .before .before .before .before .before .before .before .before .before .before .before .args .own .now) (c .before .before .before .before .before .before .before .before .before .before .before .before .before .before .args .across .now) (c .before .before .before .before .before .before .before .before .before .before .before .before .before .before .args .from) (s .square) (s .within) k h ∙ sym (l .inv .2) in (
+      rw (c .before .before .before .before .before .before .before .column-of .ensures) (long _ (omega arith)),
+      rw (c .before .before .before .before .before .before .column-of2 .ensures) (long _ (omega arith)),
+      rw (c .before .before .before .before .before .column-of3 .ensures) (long _ (omega arith)),
+      rw (c .before .before .before .before .column-of4 .ensures) (long _ (omega arith)),
     )
 
 add-c : tie.Need-add-c Inv-loop μ-loop
@@ -92,7 +88,7 @@ loop-less c = omega arith
 loop-again : tie.Need-loop-again Inv-loop μ-loop
 loop-again c =
     let l = c .before .before .before .before .before .before .before .before .before .before .before .before .before .loop in
-    let e = c .before .before .add-four .ensures ∙ four-added (c .before .before .before .before .before .before .before .before .before .before .before .before .before .before .before .before .before .args .own .now) (c .before .before .before .before .before .before .before .before .before .before .before .before .before .before .before .before .before .args .across .now) (l .c) (l .inv .3) (c .before .before .before .before .before .before .before .before .before .before .row-of .ensures) (c .before .before .before .before .before .before .before .before .before .row-of2 .ensures) (c .before .before .before .before .before .before .before .before .row-of3 .ensures) (c .before .before .before .before .before .before .before .row-of4 .ensures) in
+    let e = c .before .before .add-four .ensures ∙ four-added (c .before .before .before .before .before .before .before .before .before .before .before .before .before .before .before .before .before .args .own .now) (c .before .before .before .before .before .before .before .before .before .before .before .before .before .before .before .before .before .args .across .now) (c .before .before .before .before .before .before .before .before .before .before .before .before .before .before .before .before .before .args .from) (l .c) (l .inv .3) (c .before .before .before .before .before .before .before .before .before .before .column-of .ensures) (c .before .before .before .before .before .before .before .before .before .column-of2 .ensures) (c .before .before .before .before .before .before .before .before .column-of3 .ensures) (c .before .before .before .before .before .before .before .column-of4 .ensures) in
     (refl, omega (arith, c .before .before .before .before .before .before .before .before .before .before .before .before .loop-test .taken), listed-length _ _ e, e)
 
 same-length : tie.Need-same-length Inv-loop μ-loop
@@ -112,10 +108,10 @@ add-fours-spec =
     add-c1
     add-c2
     add-c3
-    row-of-requires
-    row-of-requires-2
-    row-of-requires-3
-    row-of-requires-4
+    column-of-requires
+    column-of-requires-2
+    column-of-requires-3
+    column-of-requires-4
     mul-add-four
     shared-slice-read-add-four
     mul-add-four-2

@@ -1,30 +1,20 @@
-use Rattle.lists.proofs.Listed.{listed-length}
-use Rattle.columns.proofs.Steps.{no-column}
-use lib.Ieee.{ofBits}
+use mathlib.Core.Path.{_∙_}
+use native.Mathlib.Omega.{arith}
 use borrow.Author.Needs.{needs}
+use Rattle.columns.proofs.Steps.{from-first}
 use Rattle.columns.proofs.squared_row.Statement.{statement}
 use Rattle.columns.proofs.squared_row.Tie as tie
 
-fill-requires : tie.Need-fill-requires
-fill-requires c κs = search needs
-
-add-fours-requires : tie.Need-add-fours-requires
-unfolding ofBits
-add-fours-requires c κs =
-    let s = c .before .before .before .before .before .before .before .before in
-    let p = s .pre in
-    let e = no-column (s .args .own .now) (s .args .across .now) (c .before .before .before .fill .ensures) (p .sums-length) in
-    (record { few = p .few; square = p .square; sums-length = listed-length _ _ e }, e)
-
-add-rest-requires : tie.Need-add-rest-requires
-add-rest-requires c κs = search needs
+squared-tail-requires : tie.Need-squared-tail-requires
+squared-tail-requires c κs =
+    let p = c .before .before .before .before .pre in
+    record { few = p .few; square = p .square; within = omega arith; sums-length = omega (arith, p .sums-length) }
 
 same-length : tie.Need-same-length
 same-length c = search needs
 
 returns : tie.Need-returns
-returns c = search needs
+returns c = c .before .before .squared-tail .ensures ∙ from-first (c .before .before .before .before .before .before .before .args .own .now) (c .before .before .before .before .before .before .before .args .across .now) _
 
 pub squared-row-spec : {M : Type 1} → statement M
-squared-row-spec =
-    tie.close (tie.spec fill-requires add-fours-requires add-rest-requires same-length returns)
+squared-row-spec = tie.close (tie.spec squared-tail-requires same-length returns)

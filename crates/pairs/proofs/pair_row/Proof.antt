@@ -3,7 +3,7 @@ use native.Mathlib.Omega.{arith}
 use borrow.Author.Needs.{needs}
 use Rattle.lists.proofs.Grid.{square-small}
 use Rattle.lists.proofs.Rows.{row-end, row-small}
-use Rattle.pairs.proofs.Regions.{above, gathered-length, pair-row-is}
+use Rattle.pairs.proofs.Regions.{pairs-above, pairs-length, pair-row-is}
 use Rattle.pairs.proofs.pair_row.Statement.{statement}
 use Rattle.pairs.proofs.pair_row.Tie as tie
 
@@ -29,7 +29,7 @@ add-gather-2 : tie.Need-add-gather-2
 add-gather-2 c = omega (arith, row-small (c .before .before .args .i) (c .before .before .args .m) (c .before .before .pre .within) (c .before .before .pre .summed .four .few), square-small (c .before .before .args .m) (c .before .before .pre .summed .four .few))
 
 gather-requires : tie.Need-gather-requires
-gather-requires c κs = (omega (arith, row-end (c .before .before .args .i) (c .before .before .args .m) (c .before .before .pre .within), c .before .before .pre .summed .four .size), λ j l. above (c .before .before .args .area .now) (c .before .before .args .m) (c .before .before .args .i) (c .before .before .pre) j l)
+gather-requires c κs = (omega (arith, row-end (c .before .before .args .i) (c .before .before .args .m) (c .before .before .pre .within), c .before .before .pre .summed .four .size), λ j l. pairs-above (c .before .before .args .area .now) (c .before .before .args .m) (c .before .before .args .i) (c .before .before .pre) j l)
 
 add-root-cells : tie.Need-add-root-cells
 add-root-cells c = omega (arith, row-small (c .before .before .before .before .before .before .args .i) (c .before .before .before .before .before .before .args .m) (c .before .before .before .before .before .before .pre .within) (c .before .before .before .before .before .before .pre .summed .four .few), square-small (c .before .before .before .before .before .before .args .m) (c .before .before .before .before .before .before .pre .summed .four .few))
@@ -49,7 +49,7 @@ sub-root-cells c = omega arith
 root-cells-requires : tie.Need-root-cells-requires
 root-cells-requires c κs =
     let e = row-end (c .before .before .before .before .before .before .args .i) (c .before .before .before .before .before .before .args .m) (c .before .before .before .before .before .before .pre .within) in
-    let l = gathered-length (c .before .before .before .before .before .before .args .area .now) (c .before .before .before .before .before .before .args .m) (c .before .before .before .before .before .before .args .i) (c .before .before .before .before .before .before .pre) (c .before .before .before .gather .ensures) in
+    let l = pairs-length (c .before .before .before .before .before .before .args .area .now) (c .before .before .before .before .before .before .args .m) (c .before .before .before .before .before .before .args .i) (c .before .before .before .before .before .before .pre) (c .before .before .before .gather .ensures) in
     (omega (arith, c .before .before .before .before .before .before .pre .within), omega (arith, c .before .before .before .before .before .before .pre .within, c .before .before .before .before .before .before .pre .summed .four .size))
 
 same-length : tie.Need-same-length

@@ -6,7 +6,7 @@ use borrow.Author.Needs.{needs}
 use Rattle.columns.specs.Pair.{pairAt}
 use Rattle.lists.specs.Lists.{cellAt}
 use Rattle.lists.proofs.Areas.{area-length, area-none, areaTo}
-use Rattle.pairs.specs.Regions.{pointsAt}
+use Rattle.columns.specs.Columns.{pointsAt}
 use Rattle.pairs.proofs.Regions.{rooted-rows, row-more}
 use Rattle.pairs.proofs.root_all.Statement.{statement}
 use Rattle.pairs.proofs.root_all.Tie as tie

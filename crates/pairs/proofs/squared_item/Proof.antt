@@ -14,26 +14,26 @@ add-third c = omega arith
 row-of-requires : tie.Need-row-of-requires
 row-of-requires c κs = search needs
 
-mul-squared-row : tie.Need-mul-squared-row
-mul-squared-row c = omega arith
+mul-squared-tail : tie.Need-mul-squared-tail
+mul-squared-tail c = omega arith
 
-sub-squared-row : tie.Need-sub-squared-row
-sub-squared-row c = omega arith
+sub-squared-tail : tie.Need-sub-squared-tail
+sub-squared-tail c = omega arith
 
-part-squared-row-start : tie.Need-part-squared-row-start
-part-squared-row-start c = search needs
+part-squared-tail-start : tie.Need-part-squared-tail-start
+part-squared-tail-start c = search needs
 
-part-squared-row-end : tie.Need-part-squared-row-end
-part-squared-row-end c = search needs
+part-squared-tail-end : tie.Need-part-squared-tail-end
+part-squared-tail-end c = search needs
 
-squared-row-requires : tie.Need-squared-row-requires
-squared-row-requires c κs = columns (c .before .before .before .before .before .args .area .now) (c .before .before .before .before .before .args .m) (c .before .before .before .before .before .args .i) (c .before .before .before .before .before .pre .0) (c .before .before .before .before .before .pre .1) (c .before .before .row-of .ensures) (c .before .before .before .before .before .pre .2)
+squared-tail-requires : tie.Need-squared-tail-requires
+squared-tail-requires c κs = columns (c .before .before .before .before .before .args .area .now) (c .before .before .before .before .before .args .m) (c .before .before .before .before .before .args .i) (c .before .before .before .before .before .pre .0) (c .before .before .before .before .before .pre .1) (c .before .before .row-of .ensures) (c .before .before .before .before .before .pre .2)
 
 same-length : tie.Need-same-length
 same-length c = search needs
 
 returns : tie.Need-returns
-returns c = c .before .before .squared-row .ensures ∙ squared-item-is (c .before .before .before .before .before .before .before .before .args .area .now) (c .before .before .before .before .before .before .before .before .args .m) (c .before .before .before .before .before .before .before .before .args .i) (c .before .before .before .before .before .before .before .before .pre .0) (c .before .before .before .before .before .before .before .before .pre .1) (c .before .before .before .before .before .row-of .ensures)
+returns c = c .before .before .squared-tail .ensures ∙ squared-item-is (c .before .before .before .before .before .before .before .before .args .area .now) (c .before .before .before .before .before .before .before .before .args .m) (c .before .before .before .before .before .before .before .before .args .i) (c .before .before .before .before .before .before .before .before .pre .0) (c .before .before .before .before .before .before .before .before .pre .1) (c .before .before .before .before .before .row-of .ensures)
 
 pub squared-item-spec : {M : Type 1} → statement M
 squared-item-spec =
@@ -42,10 +42,10 @@ squared-item-spec =
     mul-second
     add-third
     row-of-requires
-    mul-squared-row
-    sub-squared-row
-    part-squared-row-start
-    part-squared-row-end
-    squared-row-requires
+    mul-squared-tail
+    sub-squared-tail
+    part-squared-tail-start
+    part-squared-tail-end
+    squared-tail-requires
     same-length
     returns)

@@ -9,7 +9,7 @@ use Rattle.lists.specs.Lists.{cellAt, put}
 use Rattle.lists.proofs.Areas.{area-length, area-none, areaTo}
 use Rattle.lists.proofs.Grid.{cell-below, square-small}
 use Rattle.lists.proofs.Rows.{row-end, row-small}
-use Rattle.pairs.specs.Regions.{pointsAt}
+use Rattle.columns.specs.Columns.{pointsAt}
 use Rattle.pairs.proofs.Regions.{row-more, turned-row}
 use Rattle.pairs.proofs.transpose.Statement.{statement}
 use Rattle.pairs.proofs.transpose.Tie as tie
