@@ -1,0 +1,57 @@
+-- Laws of counts: more names never take fewer draws, 256 names take 214,428, and a seeding of a round is within the round's count.
+use mathlib.Core.Path.{_≡_, refl, subst}
+use mathlib.Core.Bool.{Bool, true, false, cond}
+use Prim.Native.Nat.{ℕ, zero, suc, _+_, _-_, _*_, _≤_, _<_, max, zero-le}
+use native.Mathlib.Nat.{le-of-suc-le-suc, not-suc-le-zero, mul-le-mul, add-zero}
+use native.Mathlib.Omega.{arith}
+use lib.Dec.{ltb}
+use Rattle.draws.specs.Counts.{trialsOf, countOf, seedingsOf, seedingOf}
+
+between : (a b c d e : Bool) → (0 < cond a 2 (cond b 3 (cond c 4 (cond d 5 (cond e 6 7))))) × (cond a 2 (cond b 3 (cond c 4 (cond d 5 (cond e 6 7)))) ≤ 7)
+between true b c d e = (omega arith, omega arith)
+between false true c d e = (omega arith, omega arith)
+between false false true d e = (omega arith, omega arith)
+between false false false true e = (omega arith, omega arith)
+between false false false false true = (omega arith, omega arith)
+between false false false false false = (omega arith, omega arith)
+
+pub trials-some : (k : ℕ) → 0 < trialsOf k
+trials-some k = between (ltb k 3) (ltb k 8) (ltb k 21) (ltb k 55) (ltb k 149) .0
+
+pub trials-few : (k : ℕ) → trialsOf k ≤ 7
+trials-few k = between (ltb k 3) (ltb k 8) (ltb k 21) (ltb k 55) (ltb k 149) .1
+
+pub turns-few : (k : ℕ) → k ≤ 256 → (k - 1) * trialsOf k ≤ 1785
+turns-few k h = let l : k - 1 ≤ 255 = omega arith in omega (arith, mul-le-mul l (trials-few k))
+
+seedings-mono : (k i j : ℕ) → i ≤ j → seedingsOf k i ≤ seedingsOf k j
+unfolding seedingsOf
+seedings-mono k zero j h = zero-le
+seedings-mono k (suc i) zero h = absurd (not-suc-le-zero h)
+seedings-mono k (suc i) (suc j) h = omega (arith, seedings-mono (suc k) i j (le-of-suc-le-suc h))
+
+pub count-mono : (w m : ℕ) → w ≤ m → countOf w ≤ countOf m
+unfolding countOf
+count-mono w m h = seedings-mono 2 (max 2 (w - 1) - 1) (max 2 (m - 1) - 1) (omega arith)
+
+pub count-last : countOf 256 ≡ 214428
+unfolding countOf seedingsOf
+count-last = refl
+
+pub count-max : (m : ℕ) → m ≤ 256 → countOf m ≤ 214428
+count-max m h = subst (λ (x : ℕ). countOf m ≤ x) count-last (count-mono m 256 h)
+
+-- one seeding is among those with k, k + 1, .. centres
+pub seeding-among : (i k j : ℕ) → i < j → seedingOf (k + i) ≤ seedingsOf k j
+unfolding seedingsOf
+seeding-among i k zero h = absurd (not-suc-le-zero h)
+seeding-among zero k (suc j) h = rw (add-zero k) (omega arith)
+seeding-among (suc i) k (suc j) h =
+    let e : suc k + i ≡ k + suc i = omega arith in
+    omega (arith, subst (λ (x : ℕ). seedingOf x ≤ seedingsOf (suc k) j) e (seeding-among i (suc k) j (le-of-suc-le-suc h)))
+
+pub seeding-in-count : (k m : ℕ) → 2 ≤ k → k ≤ max 2 (m - 1) → seedingOf k ≤ countOf m
+unfolding countOf
+seeding-in-count k m a b =
+    let e : 2 + (k - 2) ≡ k = omega arith in
+    subst (λ (x : ℕ). seedingOf x ≤ seedingsOf 2 (max 2 (m - 1) - 1)) e (seeding-among (k - 2) 2 (max 2 (m - 1) - 1) (omega arith))

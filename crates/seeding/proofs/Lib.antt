@@ -1,0 +1,5 @@
+-- Laws of a seeding.
+pub mod Turns
+pub mod Seeds
+pub mod Same
+pub mod Examples

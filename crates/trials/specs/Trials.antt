@@ -1,0 +1,74 @@
+-- One centre more: w i is item i's weight, its least squared distance to a centre, q p i its squared distance to item p, and there are m items. Definitions only.
+use Prim.Native.Nat.{ℕ, suc, _-_, _+_, _*_, _≤_, _<_}
+use mathlib.Core.Path.{_≡_}
+use mathlib.Core.Bool.{cond}
+use mathlib.Core.List.{List}
+use lib.Dec.{ltb}
+use lib.ListN.{length}
+use lib.Ieee.{Float, lt, isNan, mul, binary64}
+use Rattle.lists.specs.Lists.{cells, row, firstTo}
+use Rattle.lists.specs.Sums.{zero64, sumTo}
+use Rattle.draws.specs.declared.Stop.the-variants.{DrawOutOfRange}
+use Rattle.draws.specs.Draws.{Drawn, drawn, refused, takes, one, andThen, shares, share}
+use Rattle.trials.specs.declared.Trial.{Trial}
+use Rattle.trials.specs.declared.Tried.{Tried}
+use Rattle.trials.specs.declared.Tried.the-variants.{Best, Stopped}
+
+-- the lesser of two; a NaN gives way to a number
+abbrev pub lesser : Float → Float → Float
+lesser a b = cond (lt b a) b (cond (isNan a) b a)
+
+-- the weights with p as a centre too
+abbrev pub with : (ℕ → ℕ → Float) → (ℕ → Float) → ℕ → ℕ → Float
+with q w p i = lesser (w i) (q p i)
+
+-- the first item whose running weight exceeds x, else the last
+unfoldable pub reached : (ℕ → Float) → Float → ℕ → ℕ
+reached w x m = cond (ltb (firstTo (λ i. lt x (sumTo w (suc i))) m) m) (firstTo (λ i. lt x (sumTo w (suc i))) m) (m - 1)
+
+-- with a total above 0 a trial takes a share draw, else an index draw: what the draw must be below, and what it picks
+abbrev pub limit : Float → ℕ → ℕ
+limit total m = cond (lt zero64 total) shares m
+
+unfoldable pub pick : (ℕ → Float) → Float → ℕ → ℕ → ℕ
+pick w total m d = cond (lt zero64 total) (reached w (mul binary64 (share d) total) m) d
+
+-- a pick with its potential, the total of the weights with it as a centre too
+abbrev pub tried : (ℕ → ℕ → Float) → (ℕ → Float) → ℕ → ℕ → Trial
+tried q w m p = record { potential = sumTo (with q w p) m; pick = p }
+
+abbrev pub trial : (ℕ → ℕ → Float) → (ℕ → Float) → Float → ℕ → ℕ → Trial
+trial q w total m d = tried q w m (pick w total m d)
+
+-- a later trial wins only if its potential is strictly smaller
+abbrev pub better : Trial → Trial → Trial
+better b t = cond (lt (t .potential) (b .potential)) t b
+
+-- the better of b and the trial of the draw d
+abbrev pub against : (ℕ → ℕ → Float) → (ℕ → Float) → Float → ℕ → Trial → ℕ → Trial
+against q w total m b d = better b (trial q w total m d)
+
+-- the best of one trial and `more`; the first stands whatever its potential is
+unfoldable pub bestOf : (ℕ → ℕ → Float) → (ℕ → Float) → Float → ℕ → ℕ → ℕ → List ℕ → Drawn Trial
+bestOf q w total m more at ds =
+    andThen (one (limit total m) at ds)
+    (λ d rest. takes (limit total m) (against q w total m) more (trial q w total m d) (at + 1) rest)
+
+-- the best of t trials, with the weights in ws, whose total is their sum by rising row
+abbrev pub nextOf : (ℕ → ℕ → Float) → ℕ → ℕ → List Float → ℕ → List ℕ → Drawn Trial
+nextOf q m t ws at ds = bestOf q (cells ws) (sumTo (cells ws) m) m (t - 1) at ds
+
+-- the squared distances from item p, in a table of m rows of m cells
+abbrev pub table : List Float → ℕ → ℕ → ℕ → Float
+table squares m p = cells (row squares m p)
+
+-- the answer of a search for the best trial
+abbrev pub triedOf : Drawn Trial → Tried
+triedOf (drawn b rest) = Best b
+triedOf (refused p) = Stopped (DrawOutOfRange p)
+
+-- a table of the items that the weights are of
+pub record Weighed (squares ws : List Float) : Type 0 where
+  pub few : length ws ≤ 256
+  pub some : 0 < length ws
+  pub square : length squares ≡ length ws * length ws
