@@ -1,0 +1,4 @@
+-- Laws of groups and their means.
+pub mod Means
+pub mod Members
+pub mod Single

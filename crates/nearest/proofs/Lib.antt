@@ -1,0 +1,2 @@
+-- Laws of the nearest and the farthest.
+pub mod Steps
