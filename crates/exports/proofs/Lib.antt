@@ -1,0 +1,2 @@
+-- Laws of the answers in a list of three.
+pub mod Laws

@@ -1,0 +1,45 @@
+use borrow.Author.Needs.{needs}
+use Rattle.exports.proofs.Laws.{not-told, telling, three-places}
+use Rattle.exports.proofs.onc_kmeans_plus_plus.Statement.{statement}
+use Rattle.exports.proofs.onc_kmeans_plus_plus.Tie as tie
+
+answer-refused-requires : tie.Need-answer-refused-requires
+answer-refused-requires c κs = search needs
+
+returns : tie.Need-returns
+returns c = not-told _ _ _ _ _ _ _ (c .before .answer-refused .ensures) (c .if1 .taken)
+
+kmeans-plus-plus-requires : tie.Need-kmeans-plus-plus-requires
+kmeans-plus-plus-requires c κs = search needs
+
+tell-requires : tie.Need-tell-requires
+tell-requires c κs = three-places _ _ _ (c .before .before .before .before .before .before .before .before .before .before .before .before .answer-refused .ensures) (c .before .before .before .before .before .before .before .before .before .before .before .if1 .left)
+
+same-length : tie.Need-same-length
+same-length c = search needs
+
+same-length-2 : tie.Need-same-length-2
+same-length-2 c = search needs
+
+same-length-3 : tie.Need-same-length-3
+same-length-3 c = search needs
+
+same-length-4 : tie.Need-same-length-4
+same-length-4 c = search needs
+
+returns-2 : tie.Need-returns-2
+returns-2 c = telling _ _ _ (c .before .before .before .before .before .before .before .before .before .before .before .before .before .before .before .before .before .before .before .before .before .before .args .answer .now) _ _ _ (c .before .before .before .before .before .before .before .before .before .before .kmeans-plus-plus .result) (three-places _ _ _ (c .before .before .before .before .before .before .before .before .before .before .before .before .before .before .before .answer-refused .ensures) (c .before .before .before .before .before .before .before .before .before .before .before .before .before .before .if1 .left)) (c .before .before .before .before .before .before .before .before .before .before .kmeans-plus-plus .ensures) (c .before .before .tell .ensures .0) (c .before .before .tell .ensures .1)
+
+pub onc-kmeans-plus-plus-spec : {M : Type 1} → statement M
+onc-kmeans-plus-plus-spec =
+    tie.close
+    (tie.spec
+    answer-refused-requires
+    returns
+    kmeans-plus-plus-requires
+    tell-requires
+    same-length
+    same-length-2
+    same-length-3
+    same-length-4
+    returns-2)

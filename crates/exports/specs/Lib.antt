@@ -1,0 +1,2 @@
+-- What the calls for other languages give and leave (Told.antt).
+pub mod Told

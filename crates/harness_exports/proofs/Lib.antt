@@ -1,0 +1,2 @@
+-- Laws of what the harness is told.
+pub mod Laws

@@ -1,0 +1,2 @@
+-- Laws of the k-means leaves.
+pub mod Laws
