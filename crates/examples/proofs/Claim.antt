@@ -9,8 +9,9 @@ use Rattle.stats.specs.Average.{constant, exactMean, varianceAbout, varianceOf,
 use Rattle.tstat.specs.Quality.{ratio, tstatOf}
 use Rattle.scores.specs.Scores.{least, scoreOf, scoreFrom}
 use Rattle.silhouette.specs.Leaf.{scoreAt}
+use Rattle.draws.specs.Counts.{seedingsOf, countOf}
 use Rattle.examples.specs.Starred.{table, AllHold, answer, given}
 
 pub examples-hold : AllHold table
-unfolding AllHold answer given listed firstTo firstFrom when unless refusal sumTo allTo foldIf root constant exactMean varianceAbout varianceOf averaged ratio tstatOf least scoreOf scoreFrom scoreAt ofBits toBits ofInt add sub mul div lt le eq isNan
-examples-hold = (refl, (refl, (refl, (refl, (refl, (refl, (refl, (refl, (refl, (refl, (refl, tt)))))))))))
+unfolding AllHold answer given listed firstTo firstFrom when unless refusal sumTo allTo foldIf root constant exactMean varianceAbout varianceOf averaged ratio tstatOf least scoreOf scoreFrom scoreAt seedingsOf countOf ofBits toBits ofInt add sub mul div lt le eq isNan
+examples-hold = (refl, (refl, (refl, (refl, (refl, (refl, (refl, (refl, (refl, (refl, (refl, (refl, (refl, (refl, (refl, tt)))))))))))))))

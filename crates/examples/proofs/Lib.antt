@@ -1,3 +1,2 @@
--- The one claim over the table, and a law of patterns for the program.
+-- The one claim over the table.
 pub mod Claim
-pub mod Patterns

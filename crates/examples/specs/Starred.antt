@@ -13,6 +13,7 @@ use Rattle.stats.specs.Average as stats
 use Rattle.tstat.specs.Quality as quality
 use Rattle.refusals.specs.Table.{refusal}
 use Rattle.silhouette.specs.Leaf.{scoreAt}
+use Rattle.draws.specs.Counts.{countOf}
 
 -- which definition is asked, and of what
 pub data Question : Type 0 where
@@ -21,25 +22,29 @@ pub data Question : Type 0 where
   the-variance : List Float → ℕ → Question
   the-tstat : List Float → Question
   the-scores : List Float → List ℕ → Question
+  the-draws : ℕ → Question
 
--- an answer: the table's number, and the values
+-- an answer: the table's number, and the values, doubles or whole numbers
 pub record Answered : Type 0 where
   pub number : ℕ
   pub values : List Float
+  pub counts : List ℕ
+
+abbrev pub valued : ℕ → List Float → Answered
+valued q xs = record { number = q; values = xs; counts = [] }
 
 unfoldable pub given : stats.Averaged → Answered
-given a = record { number = a .number; values = a .values }
+given a = valued (a .number) (a .values)
 
 unfoldable pub answer : Question → Answered
-answer (the-root x) = record { number = 0; values = root x ∷ [] }
+answer (the-root x) = valued 0 (root x ∷ [])
 answer (the-mean xs) = given (stats.mean (cells xs) (length xs))
 answer (the-variance xs ddof) = given (stats.variance (cells xs) (length xs) ddof)
 answer (the-tstat xs) = given (quality.tstat (cells xs) (length xs))
 answer (the-scores pairs labels) =
-    record {
-      number = refusal (length pairs) (length labels) (length labels) true (firstFrom (length labels) labels) (length labels) .number;
-      values = listed (scoreAt pairs (length labels) labels) (length labels);
-    }
+    valued (refusal (length pairs) (length labels) (length labels) true (firstFrom (length labels) labels) (length labels) .number)
+    (listed (scoreAt pairs (length labels) labels) (length labels))
+answer (the-draws m) = record { number = 0; values = []; counts = countOf m ∷ [] }
 
 pub record Example : Type 0 where
   pub asked : Question
@@ -54,10 +59,14 @@ whole n = counted n
 
 -- the answer that an average gives where there is none
 abbrev pub nothing : Answered
-nothing = record { number = 0; values = [] }
+nothing = valued 0 []
 
 abbrev pub one : Float → Answered
-one x = record { number = 0; values = x ∷ [] }
+one x = valued 0 (x ∷ [])
+
+-- a whole number
+abbrev pub count : ℕ → Answered
+count n = record { number = 0; values = []; counts = n ∷ [] }
 
 abbrev pub quarter : Float
 quarter = scaled 1 1
@@ -84,8 +93,13 @@ table =
     -- pair distances 1 (0-1), 2 (0-2), 4 (1-2) with labels 0, 0, 1: scores 0.5, 0.75, 0
     ∷ (record {
       asked = the-scores (whole 0 ∷ whole 1 ∷ whole 2 ∷ whole 1 ∷ whole 0 ∷ whole 4 ∷ whole 2 ∷ whole 4 ∷ whole 0 ∷ []) (0 ∷ 0 ∷ 1 ∷ []);
-      expected = record { number = 0; values = half ∷ scaled 3 1 ∷ whole 0 ∷ [] };
+      expected = valued 0 (half ∷ scaled 3 1 ∷ whole 0 ∷ []);
     })
+    -- the draws of a round, for one repeat: 3 for 2 names, 3 for 3, 10 for 4, 208 for 12
+    ∷ (record { asked = the-draws 2; expected = count 3 })
+    ∷ (record { asked = the-draws 3; expected = count 3 })
+    ∷ (record { asked = the-draws 4; expected = count 10 })
+    ∷ (record { asked = the-draws 12; expected = count 208 })
     ∷ []
 
 -- each question of the list has the answer that stands beside it

@@ -55,96 +55,13 @@ fn many() -> [f64; 65537]
     [0.5; 65537]
 }
 
-fn text_buffer() -> [u8; 262144]
-    ensures { λ r. ⌜ 262144 ≡ length r ⌝ }
-{
-    [0; 262144]
-}
-
-// The value of a digit, 0 to 9 or a to f.
-fn hex_digit(b: u8) -> u64
-    ensures { λ r. ⌜ r ≤ 15 ⌝ }
-{
-    if b < b'a' {
-        return (b % 16) as u64;
-    }
-    ((b % 16 + 9) % 16) as u64
-}
-
-// A value with one digit more at its end; of seventeen digits the first is lost.
-fn with_digit(value: u64, b: u8) -> u64 {
-    value % 0x1000_0000_0000_0000 * 16 + hex_digit(b)
-}
-
-// The value of hex digits.
-fn hex_value(digits: &[u8]) -> u64 {
-    let mut value: u64 = 0;
-    let n = digits.len();
-    for i in 0..n {
-        value = with_digit(value, digits[i]);
-    }
-    value
-}
-
-// Word k of the text, of the first 200001; 0 past its end.
-fn word(text: &[u8], k: usize) -> u64 {
-    if k > 200000 {
-        return 0;
-    }
-    let at = k * 17;
-    let end = at + 16;
-    if end > text.len() {
-        return 0;
-    }
-    hex_value(&text[at..end])
-}
-
-// The word i places after the one at `at`; 0 where one of the two is above 100000.
-fn word_from(text: &[u8], at: usize, i: usize) -> u64 {
-    if at > 100000 {
-        return 0;
-    }
-    if i > 100000 {
-        return 0;
-    }
-    word(text, at + i)
-}
-
-// The same word as a size of at most `most`.
-fn size_from(text: &[u8], at: usize, i: usize, most: usize) -> usize
-    ensures { λ r. ⌜ r ≤ most ⌝ }
-{
-    let value = word_from(text, at, i) as usize;
-    if value > most {
-        return most;
-    }
-    value
-}
-
-// The double of a pattern; every NaN pattern is one NaN.
-fn double_of(bits: u64) -> f64 {
-    if bits % 0x8000_0000_0000_0000 > 0x7ff0_0000_0000_0000 {
-        return 0.0 / 0.0;
-    }
-    f64::from_bits(bits)
-}
-
-fn bits_of(x: f64) -> u64 {
-    if x != x {
-        return 0x7ff8_0000_0000_0000;
-    }
-    f64::to_bits(x)
-}
-
 // n words from `at` on, as doubles and as numbers.
 fn doubles_at(text: &[u8], at: usize, n: usize) -> [f64; 64]
     requires { ⌜ n ≤ 64 ⌝ }
     ensures { λ r. ⌜ 64 ≡ length r ⌝ }
 {
     let mut xs = buffer();
-    for i in 0..n {
-        xs[i] = double_of(word_from(text, at, i));
-    }
+    words::doubles(text, at, &mut xs[..n]);
     xs
 }
 
@@ -153,9 +70,7 @@ fn numbers_at(text: &[u8], at: usize, n: usize) -> [usize; 64]
     ensures { λ r. ⌜ 64 ≡ length r ⌝ }
 {
     let mut xs = number_buffer();
-    for i in 0..n {
-        xs[i] = word_from(text, at, i) as usize;
-    }
+    words::numbers(text, at, &mut xs[..n]);
     xs
 }
 
@@ -167,26 +82,7 @@ fn same_list(text: &[u8], expected: usize, xs: &[f64]) -> bool {
     let at = expected + 3;
     let n = xs.len();
     for i in 0..n {
-        if bits_of(xs[i]) != word_from(text, at, i) {
-            return false;
-        }
-    }
-    true
-}
-
-// What a working list has at i after a call that leaves its front zero: +0 there, and 7.0, as it was lent, behind.
-fn left_at(i: usize, front: usize) -> u64 {
-    if i < front {
-        return 0;
-    }
-    0x401c_0000_0000_0000
-}
-
-// Whether the front of a working list is +0 and the rest as it was lent.
-fn left_right(floats: &[f64], front: usize) -> bool {
-    let n = floats.len();
-    for i in 0..n {
-        if bits_of(floats[i]) != left_at(i, front) {
+        if words::bits_of(xs[i]) != words::word_from(text, at, i) {
             return false;
         }
     }
@@ -330,17 +226,17 @@ fn read_case(text: &[u8], at: usize) -> Case
     requires { ⌜ at ≤ 20000 ⌝ }
     ensures { λ r. ⌜ (r .a ≤ 64) × (r .b ≤ 64) × (r .out ≤ 64) × (r .floats ≤ 4096) × (at + 8 ≤ r .expected) × (r .expected ≤ 20136) ⌝ }
 {
-    let a = size_from(text, at, 2, 64);
-    let b = size_from(text, at, 3, 64);
+    let a = words::size_from(text, at, 2, 64);
+    let b = words::size_from(text, at, 3, 64);
     Case {
-        leaf: word_from(text, at, 0),
-        n: word_from(text, at, 1) as usize,
+        leaf: words::word_from(text, at, 0),
+        n: words::word_from(text, at, 1) as usize,
         a,
         b,
-        out: size_from(text, at, 4, 64),
-        floats: size_from(text, at, 5, 4096),
-        i: word_from(text, at, 6) as usize,
-        j: word_from(text, at, 7) as usize,
+        out: words::size_from(text, at, 4, 64),
+        floats: words::size_from(text, at, 5, 4096),
+        i: words::word_from(text, at, 6) as usize,
+        j: words::word_from(text, at, 7) as usize,
         expected: at + 8 + a + b,
     }
 }
@@ -350,18 +246,18 @@ fn after(text: &[u8], expected: usize) -> usize
     requires { ⌜ expected ≤ 20136 ⌝ }
     ensures { λ r. ⌜ (expected ≤ r) × (r ≤ 20203) ⌝ }
 {
-    expected + 3 + size_from(text, expected, 2, 64)
+    expected + 3 + words::size_from(text, expected, 2, 64)
 }
 
 // Whether the text has this number, place and count of values at `expected`.
 fn same_answer(text: &[u8], expected: usize, o: Outcome) -> bool {
-    if o.number != word_from(text, expected, 0) {
+    if o.number != words::word_from(text, expected, 0) {
         return false;
     }
-    if o.place != word_from(text, expected, 1) {
+    if o.place != words::word_from(text, expected, 1) {
         return false;
     }
-    o.count == word_from(text, expected, 2)
+    o.count == words::word_from(text, expected, 2)
 }
 
 // Whether the single value, where there is one, is the one that the text has.
@@ -369,18 +265,11 @@ fn same_value(text: &[u8], expected: usize, o: Outcome) -> bool {
     if o.count == 0 {
         return true;
     }
-    bits_of(o.value) == word_from(text, expected, 3)
+    words::bits_of(o.value) == words::word_from(text, expected, 3)
 }
 
-// The front of a working list that a call over m names leaves zero.
-fn front(m: usize) -> usize {
-    if m > 256 {
-        return 0;
-    }
-    8 * (m * m) + 256 * m
-}
-
-// The same for a leaf, by the number that it answered: a refused call leaves the list as it was, and leaves 8 to 10 have none.
+// The front of its working list that a leaf leaves zero, by the number that it answered: a refused call leaves the list as
+// it was, and leaves 8 to 10 have none.
 fn front_of(c: Case, number: u64) -> usize {
     if number != 0 {
         return 0;
@@ -389,9 +278,9 @@ fn front_of(c: Case, number: u64) -> usize {
         return 0;
     }
     if c.leaf == 12 {
-        return front(c.b);
+        return words::front(c.b);
     }
-    front(c.n)
+    words::front(c.n)
 }
 
 // Whether a leaf's answer, its output list and the working list are as expected.
@@ -403,7 +292,7 @@ fn same_lists(text: &[u8], c: Case, answer: Answer, out: &[f64], floats: &[f64])
     if !same_list(text, c.expected, out) {
         return false;
     }
-    left_right(floats, front_of(c, o.number))
+    words::left_right(floats, front_of(c, o.number))
 }
 
 // Runs a leaf that fills a list, and compares what it left.
@@ -477,40 +366,6 @@ fn right_case(text: &[u8], at: usize, c: Case) -> bool
     right_read(text, c, &a[..n_a], &b[..n_b], &rows[..n_b])
 }
 
-fn print(text: &[u8]) {
-    io::write_all(1, text);
-}
-
-fn print_number(n: u64, after: &[u8]) {
-    io::print_decimal(1, n);
-    print(after);
-}
-
-// Names a case that differs by its place and leaf.
-fn report(at: usize, leaf: u64) {
-    print(b"differs: case at word ");
-    print_number(at as u64, b", leaf ");
-    print_number(leaf, b"\n");
-}
-
-// 1 where the case at `at` differs, which it then reports, and 0 elsewhere.
-fn differs(text: &[u8], at: usize, c: Case) -> u64
-    requires { ⌜ (at ≤ 20000) × (c .a ≤ 64) × (c .b ≤ 64) × (c .out ≤ 64) × (c .floats ≤ 4096) ⌝ }
-    ensures { λ r. ⌜ r ≤ 1 ⌝ }
-{
-    if right_case(text, at, c) {
-        return 0;
-    }
-    report(at, c.leaf);
-    1
-}
-
-// Prints how many cases ran, and how many of them differed.
-fn summary(cases: u64, differ: u64) {
-    print_number(cases, b" cases, ");
-    print_number(differ, b" differ\n");
-}
-
 fn run(text: &[u8])
     requires { ⌜ length (now text) ≤ 262144 ⌝ }
 {
@@ -520,15 +375,16 @@ fn run(text: &[u8])
     let mut differ: u64 = 0;
     while at < words {
         let c = read_case(text, at);
-        differ = differ + differs(text, at, c);
+        let right = right_case(text, at, c);
+        differ = differ + words::differs(right, at, c.leaf);
         cases = cases + 1;
         at = after(text, c.expected);
     }
-    summary(cases, differ);
+    words::summary(cases, differ);
 }
 
 fn main() {
-    let mut text = text_buffer();
+    let mut text = words::text_buffer();
     let n = io::read_full(0, &mut text);
     run(&text[..n]);
 }

@@ -1,55 +1,32 @@
-use Prim.Native.Nat.{_-_, _≤_}
-use mathlib.Core.Path.{_≡_}
-use lib.ListN.{length, length-set}
+use mathlib.Core.Path.{sym}
+use native.Mathlib.Omega.{arith}
+use lib.Seq.{length-take-le}
 use borrow.Author.Needs.{needs}
+use Rattle.words.proofs.Refilled.{refilled}
 use Rattle.examples.proofs.numbers_at.Statement.{statement}
 use Rattle.examples.proofs.numbers_at.Tie as tie
 
-abbrev Inv-loop : tie.InvT-loop
-Inv-loop text at n xs₀ i₀ xs i = (i ≤ n) × (64 ≡ length xs)
-
-abbrev μ-loop : tie.MeasureT-loop
-μ-loop text at n xs₀ i₀ xs i = n - i
-
-number-buffer-requires : tie.Need-number-buffer-requires Inv-loop μ-loop
+number-buffer-requires : tie.Need-number-buffer-requires
 number-buffer-requires c κs = search needs
 
-loop-holds : tie.Need-loop-holds Inv-loop μ-loop
-loop-holds c = search needs
+array-borrow-prefix-xs : tie.Need-array-borrow-prefix-xs
+array-borrow-prefix-xs c = search needs
 
-word-from-requires : tie.Need-word-from-requires Inv-loop μ-loop
-word-from-requires c κs = search needs
+slice-aggregate-numbers : tie.Need-slice-aggregate-numbers
+slice-aggregate-numbers c = sym (length-take-le _ _ (omega (arith, c .before .number-buffer .ensures)))
 
-mul-xs : tie.Need-mul-xs Inv-loop μ-loop
-mul-xs c = search needs
+numbers-requires : tie.Need-numbers-requires
+numbers-requires c κs = search needs
 
-array-write-xs : tie.Need-array-write-xs Inv-loop μ-loop
-array-write-xs c = search needs
-
-add-i : tie.Need-add-i Inv-loop μ-loop
-add-i c = search needs
-
-loop-less : tie.Need-loop-less Inv-loop μ-loop
-loop-less c = search needs
-
-loop-again : tie.Need-loop-again Inv-loop μ-loop
-loop-again c = (search needs, simp length-set (search needs))
-
-returns : tie.Need-returns Inv-loop μ-loop
-returns c = search needs
+returns : tie.Need-returns
+returns c = refilled 64 (c .before .before .before .before .before .args .n) (c .before .numbers .last .1 .1 .0) (c .before .before .before .number-buffer .result) (c .before .before .before .number-buffer .ensures) (c .before .before .before .before .before .pre) (c .before .numbers .kept .1 .1 .0)
 
 pub numbers-at-spec : {M : Type 1} → statement M
 numbers-at-spec =
     tie.close
     (tie.spec
-    Inv-loop
-    μ-loop
     number-buffer-requires
-    loop-holds
-    word-from-requires
-    mul-xs
-    array-write-xs
-    add-i
-    loop-less
-    loop-again
+    array-borrow-prefix-xs
+    slice-aggregate-numbers
+    numbers-requires
     returns)

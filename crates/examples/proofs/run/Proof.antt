@@ -15,6 +15,9 @@ loop-holds c = search needs
 read-case-requires : tie.Need-read-case-requires Inv-loop μ-loop
 read-case-requires c κs = search needs
 
+right-case-requires : tie.Need-right-case-requires Inv-loop μ-loop
+right-case-requires c κs = search needs
+
 differs-requires : tie.Need-differs-requires Inv-loop μ-loop
 differs-requires c κs = search needs
 
@@ -47,6 +50,7 @@ run-spec =
     μ-loop
     loop-holds
     read-case-requires
+    right-case-requires
     differs-requires
     add-differ
     add-cases

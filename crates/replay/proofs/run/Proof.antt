@@ -1,0 +1,86 @@
+use Prim.Native.Nat.{_-_, _/_, _≤_}
+use mathlib.Core.Path.{_≡_, refl}
+use mathlib.Core.Bool.{not}
+use native.Mathlib.Omega.{arith}
+use lib.ListN.{length}
+use lib.Dec.{leb}
+use borrow.Author.Needs.{needs}
+use Rattle.lists.specs.Sums.{countIf, foldIf}
+use Rattle.lists.specs.Lists.{firstTo}
+use Rattle.replay.specs.Cases.{rightAt, startOf}
+use Rattle.lists.proofs.First.{first-more}
+use Rattle.replay.proofs.Laws.{all-counted, cases-are, differ-more, not-ended, start-more}
+use Rattle.replay.proofs.run.Statement.{statement}
+use Rattle.replay.proofs.run.Tie as tie
+
+abbrev Inv-loop : tie.InvT-loop
+Inv-loop text words at₀ cases₀ differ₀ at cases differ =
+    (words ≡ length text / 17)
+    × (words ≤ 15420)
+    × (at ≤ 20395)
+    × (cases ≤ at)
+    × (cases ≤ words)
+    × (differ ≤ cases)
+    × (at ≡ startOf text cases)
+    × (firstTo (λ j. leb (length text / 17) (startOf text j)) cases ≡ cases)
+    × (differ ≡ countIf (λ k. not (rightAt text k)) cases)
+
+abbrev μ-loop : tie.MeasureT-loop
+μ-loop text words at₀ cases₀ differ₀ at cases differ = words - at
+
+loop-holds : tie.Need-loop-holds Inv-loop μ-loop
+unfolding startOf firstTo foldIf
+loop-holds c = (refl, omega arith, omega arith, omega arith, omega arith, omega arith, refl, refl, refl)
+
+read-case-requires : tie.Need-read-case-requires Inv-loop μ-loop
+read-case-requires c κs = omega arith
+
+right-case-requires : tie.Need-right-case-requires Inv-loop μ-loop
+right-case-requires c κs = search needs
+
+differs-requires : tie.Need-differs-requires Inv-loop μ-loop
+differs-requires c κs = search needs
+
+add-differ : tie.Need-add-differ Inv-loop μ-loop
+add-differ c = search needs
+
+add-cases : tie.Need-add-cases Inv-loop μ-loop
+add-cases c = omega arith
+
+add-at : tie.Need-add-at Inv-loop μ-loop
+add-at c = search needs
+
+add-at-2 : tie.Need-add-at-2 Inv-loop μ-loop
+add-at-2 c = search needs
+
+loop-less : tie.Need-loop-less Inv-loop μ-loop
+loop-less c = search needs
+
+loop-again : tie.Need-loop-again Inv-loop μ-loop
+loop-again c =
+    let i = c .before .before .before .before .before .before .loop .inv in
+    (i .0, i .1, search needs, search needs, omega arith, search needs, start-more _ _ (i .6) (c .before .before .before .before .read-case .ensures .0), first-more _ _ (i .7) (not-ended _ _ (i .6) (search needs)), differ-more _ _ (i .6) (c .before .before .before .before .read-case .ensures .0) (c .before .before .before .right-case .ensures) (c .before .before .differs .ensures .0) (i .8))
+
+returns : tie.Need-returns Inv-loop μ-loop
+returns c =
+    let i = c .before .loop .inv in
+    let e = cases-are (c .before .before .before .args .text .now) (i .0) (i .6) (i .7) (c .loop-test .left) (i .4) in
+    (e, all-counted _ e (i .8))
+
+pub run-spec : {M : Type 1} → statement M
+run-spec =
+    tie.close
+    (tie.spec
+    Inv-loop
+    μ-loop
+    loop-holds
+    read-case-requires
+    right-case-requires
+    differs-requires
+    add-differ
+    add-cases
+    add-at
+    add-at-2
+    loop-less
+    loop-again
+    returns)

@@ -1,0 +1,308 @@
+// Runs recorded cases of the k-means leaves and counts those that are answered otherwise than by the unchanged Rust.
+// Standard input has one word a line, 16 hex digits. A case is eight words, two lists and the expected answer:
+// - the leaf (1 kmeans_plus_plus, 2 lloyd, 3 kmeans_labels), n, k, and the lengths of five lists: points, draws or centres,
+//   output, working doubles, working numbers. For 2 the group count is the count of centres, whatever k is;
+// - the points as the bits of doubles, then the draws or centres;
+// - the number (0: not refused), the place, the draws read, and the output list.
+// Lent lists hold 999 or 7.0 in each cell before the call. harness/kmeans/run.sh records the cases, and specs/Cases.antt
+// says when one is answered as recorded.
+ghost use Prim.Native.Nat.{_+_, _≤_};
+ghost use mathlib.Core.Path.{_≡_};
+ghost use lib.ListN.{length, take, replicate};
+ghost use Rattle.kmeans_answers.specs.Answers.{numberOf, refusalOf, readOf};
+ghost use Rattle.replay.specs.Cases.{seven, doublesFrom, wordsFrom, caseAt, leafOf, sameAnswer, sameNumbers, namesWiped, leftAt, leftNumbers, leftRight, rightLeaf, rightLists, rightCase, casesIn, differIn};
+use kmeans_answers::Kmeans;
+
+// The sizes of a case, and the word at which its expected answer starts.
+struct Case {
+    leaf: u64,
+    n: usize,
+    k: usize,
+    points: usize,
+    list: usize,
+    out: usize,
+    floats: usize,
+    numbers: usize,
+    expected: usize,
+}
+
+// Each list comes from a function: a literal array would stand in every goal, cell by cell.
+fn point_buffer() -> [f64; 256]
+    ensures { λ r. ⌜ 256 ≡ length r ⌝ }
+{
+    [7.0; 256]
+}
+
+fn draw_buffer() -> [u64; 64]
+    ensures { λ r. ⌜ 64 ≡ length r ⌝ }
+{
+    [0; 64]
+}
+
+fn number_buffer() -> [usize; 64]
+    ensures { λ r. ⌜ r ≡ replicate 64 999 ⌝ }
+{
+    [999; 64]
+}
+
+fn working_doubles() -> [f64; 6400]
+    ensures { λ r. ⌜ r ≡ replicate 6400 seven ⌝ }
+{
+    [7.0; 6400]
+}
+
+fn working_numbers() -> [usize; 5400]
+    ensures { λ r. ⌜ r ≡ replicate 5400 999 ⌝ }
+{
+    [999; 5400]
+}
+
+// n words from `at` on, as doubles, as draws and as centres.
+fn points_at(text: &[u8], at: usize, n: usize) -> [f64; 256]
+    requires { ⌜ n ≤ 256 ⌝ }
+    ensures { λ r. ⌜ (256 ≡ length r) × (take n r ≡ doublesFrom (now (text .entry)) at n) ⌝ }
+{
+    let mut xs = point_buffer();
+    words::doubles(text, at, &mut xs[..n]);
+    xs
+}
+
+fn draws_at(text: &[u8], at: usize, n: usize) -> [u64; 64]
+    requires { ⌜ n ≤ 64 ⌝ }
+    ensures { λ r. ⌜ (64 ≡ length r) × (take n r ≡ wordsFrom (now (text .entry)) at n) ⌝ }
+{
+    let mut xs = draw_buffer();
+    words::draws(text, at, &mut xs[..n]);
+    xs
+}
+
+fn centres_at(text: &[u8], at: usize, n: usize) -> [usize; 64]
+    requires { ⌜ n ≤ 64 ⌝ }
+    ensures { λ r. ⌜ (64 ≡ length r) × (take n r ≡ wordsFrom (now (text .entry)) at n) ⌝ }
+{
+    let mut xs = number_buffer();
+    words::numbers(text, at, &mut xs[..n]);
+    xs
+}
+
+// The case at `at`: eight words, and the expected answer after its two lists.
+fn read_case(text: &[u8], at: usize) -> Case
+    requires { ⌜ at ≤ 20000 ⌝ }
+    ensures { λ r. ⌜ r ≡ caseAt (now (text .entry)) at ⌝ }
+    ensures { λ r. ⌜ (r .points ≤ 256) × (r .list ≤ 64) × (r .out ≤ 64) × (r .floats ≤ 6400) × (r .numbers ≤ 5400) × (at + 8 ≤ r .expected) × (r .expected ≤ 20328) ⌝ }
+{
+    let points = words::size_from(text, at, 3, 256);
+    let list = words::size_from(text, at, 4, 64);
+    Case {
+        leaf: words::word_from(text, at, 0),
+        n: words::word_from(text, at, 1) as usize,
+        k: words::word_from(text, at, 2) as usize,
+        points,
+        list,
+        out: words::size_from(text, at, 5, 64),
+        floats: words::size_from(text, at, 6, 6400),
+        numbers: words::size_from(text, at, 7, 5400),
+        expected: at + 8 + points + list,
+    }
+}
+
+// What the case's leaf answers.
+fn call(
+    c: Case,
+    points: &[f64],
+    draws: &[u64],
+    centres: &[usize],
+    out: &mut [usize],
+    floats: &mut [f64],
+    numbers: &mut [usize],
+) -> Kmeans
+    ensures { λ r. ⌜ record { answer = refusalOf r; read = readOf r; out = now (out .exit); floats = now (floats .exit); numbers = now (numbers .exit) }
+        ≡ leafOf c (now (points .entry)) (now (draws .entry)) (now (centres .entry)) (now (out .entry)) (now (floats .entry)) (now (numbers .entry)) ⌝ }
+{
+    if c.leaf == 1 {
+        return kmeans::kmeans_plus_plus(points, c.n, c.k, draws, out, floats, numbers);
+    }
+    if c.leaf == 2 {
+        return kmeans::lloyd(points, c.n, centres, out, floats, numbers);
+    }
+    kmeans::kmeans_labels(points, c.n, c.k, draws, out, floats, numbers)
+}
+
+// Whether the text has this answer's number, place and draws read at `expected`.
+fn same_answer(text: &[u8], expected: usize, a: Kmeans) -> bool
+    ensures { λ r. ⌜ r ≡ sameAnswer (now (text .entry)) expected (refusalOf a) (readOf a) ⌝ }
+{
+    if kmeans_answers::number_of(a) as u64 != words::word_from(text, expected, 0) {
+        return false;
+    }
+    if kmeans_answers::place_of(a) as u64 != words::word_from(text, expected, 1) {
+        return false;
+    }
+    kmeans_answers::read_of(a) as u64 == words::word_from(text, expected, 2)
+}
+
+// Whether the list has the numbers that the text has three words after `expected`.
+fn same_numbers(text: &[u8], expected: usize, xs: &[usize]) -> bool
+    ensures { λ r. ⌜ r ≡ sameNumbers (now (text .entry)) expected (now (xs .entry)) ⌝ }
+{
+    let n = xs.len();
+    for i in 0..n {
+        if xs[i] != words::word_from(text, expected, i + 3) as usize {
+            return false;
+        }
+    }
+    true
+}
+
+// What the working numbers have at i after a call that leaves their front zero: 0 there, and 999, as lent, behind.
+fn left_at(i: usize, front: usize) -> usize
+    ensures { λ r. ⌜ r ≡ leftAt front i ⌝ }
+{
+    if i < front {
+        return 0;
+    }
+    999
+}
+
+// Whether the front of the working numbers is 0 and the rest as it was lent.
+fn left_numbers(numbers: &[usize], front: usize) -> bool
+    ensures { λ r. ⌜ r ≡ leftNumbers (now (numbers .entry)) front ⌝ }
+{
+    let n = numbers.len();
+    for i in 0..n {
+        if numbers[i] != left_at(i, front) {
+            return false;
+        }
+    }
+    true
+}
+
+// The names by which the fronts are counted that are left zero: none where the answer's row keeps every list.
+fn names_wiped(n: usize, a: Kmeans) -> usize
+    ensures { λ r. ⌜ (r ≡ namesWiped n (numberOf a)) × (r ≤ 256) ⌝ }
+{
+    if n > 256 {
+        return 0;
+    }
+    let number = kmeans_answers::number_of(a);
+    if number == 0 {
+        return n;
+    }
+    if number == 7 {
+        return n;
+    }
+    if number == 8 {
+        return n;
+    }
+    0
+}
+
+// Whether both working lists are as the answer asks.
+fn left_right(n: usize, a: Kmeans, floats: &[f64], numbers: &[usize]) -> bool
+    ensures { λ r. ⌜ r ≡ leftRight n (numberOf a) (now (floats .entry)) (now (numbers .entry)) ⌝ }
+{
+    let m = names_wiped(n, a);
+    if !words::left_right(floats, words::front(m)) {
+        return false;
+    }
+    left_numbers(numbers, 320 * m)
+}
+
+// Runs a leaf, and compares what it answers and leaves.
+fn right_lists(
+    text: &[u8],
+    c: Case,
+    points: &[f64],
+    draws: &[u64],
+    centres: &[usize],
+    out: &mut [usize],
+    floats: &mut [f64],
+    numbers: &mut [usize],
+) -> bool
+    ensures { λ r. ⌜ r ≡ rightLeaf (now (text .entry)) c (leafOf c (now (points .entry)) (now (draws .entry)) (now (centres .entry)) (now (out .entry)) (now (floats .entry)) (now (numbers .entry))) ⌝ }
+{
+    let a = call(c, points, draws, centres, out, floats, numbers);
+    if !same_answer(text, c.expected, a) {
+        return false;
+    }
+    if !same_numbers(text, c.expected, out) {
+        return false;
+    }
+    left_right(c.n, a, floats, numbers)
+}
+
+// The same, on lists of the case's sizes.
+fn right_list(text: &[u8], c: Case, points: &[f64], draws: &[u64], centres: &[usize]) -> bool
+    requires { ⌜ (c .out ≤ 64) × (c .floats ≤ 6400) × (c .numbers ≤ 5400) ⌝ }
+    ensures { λ r. ⌜ r ≡ rightLists (now (text .entry)) c (now (points .entry)) (now (draws .entry)) (now (centres .entry)) ⌝ }
+{
+    let mut out = number_buffer();
+    let mut floats = working_doubles();
+    let mut numbers = working_numbers();
+    let n_out = c.out;
+    let n_floats = c.floats;
+    let n_numbers = c.numbers;
+    right_lists(
+        text,
+        c,
+        points,
+        draws,
+        centres,
+        &mut out[..n_out],
+        &mut floats[..n_floats],
+        &mut numbers[..n_numbers],
+    )
+}
+
+// Reads the case's lists, the second both as draws and as centres, and runs it.
+fn right_case(text: &[u8], at: usize, c: Case) -> bool
+    requires { ⌜ (at ≤ 20000) × (c .points ≤ 256) × (c .list ≤ 64) × (c .out ≤ 64) × (c .floats ≤ 6400) × (c .numbers ≤ 5400) ⌝ }
+    ensures { λ r. ⌜ r ≡ rightCase (now (text .entry)) at c ⌝ }
+{
+    let n_points = c.points;
+    let n_list = c.list;
+    let first = at + 8;
+    let second = first + n_points;
+    let points = points_at(text, first, n_points);
+    let draws = draws_at(text, second, n_list);
+    let centres = centres_at(text, second, n_list);
+    right_list(
+        text,
+        c,
+        &points[..n_points],
+        &draws[..n_list],
+        &centres[..n_list],
+    )
+}
+
+// How many cases ran, and how many of them differed.
+struct Counts {
+    cases: u64,
+    differ: u64,
+}
+
+// Runs every case of the text, and reports those that differ.
+fn run(text: &[u8]) -> Counts
+    requires { ⌜ length (now text) ≤ 262144 ⌝ }
+    ensures { λ r. ⌜ (r .cases ≡ casesIn (now (text .entry))) × (r .differ ≡ differIn (now (text .entry))) ⌝ }
+{
+    let words = text.len() / 17;
+    let mut at = 0;
+    let mut cases: u64 = 0;
+    let mut differ: u64 = 0;
+    while at < words {
+        let c = read_case(text, at);
+        let right = right_case(text, at, c);
+        differ = differ + words::differs(right, at, c.leaf);
+        cases = cases + 1;
+        at = c.expected + 3 + c.out;
+    }
+    Counts { cases, differ }
+}
+
+fn main() {
+    let mut text = words::text_buffer();
+    let n = io::read_full(0, &mut text);
+    let counts = run(&text[..n]);
+    words::summary(counts.cases, counts.differ);
+}
