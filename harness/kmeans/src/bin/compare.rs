@@ -91,7 +91,7 @@ impl Lent {
         let before = cells.clone();
         Lent { cells, before }
     }
-    fn garbage(r: &mut Random, n: usize) -> Lent {
+    fn any(r: &mut Random, n: usize) -> Lent {
         let seed = r.bits();
         let mut own = Random::new(seed);
         Lent::new(r, (0..n).map(move |_| own.bits()))
@@ -133,11 +133,11 @@ impl Lent {
 fn differences(r: &mut Random, call: &Call, want: &Answer) -> Vec<String> {
     let mut points = Lent::new(r, call.points.iter().map(|x| x.to_bits()));
     let mut list = Lent::new(r, call.list.iter().copied());
-    let mut out = Lent::garbage(r, call.out);
-    let mut floats = Lent::garbage(r, call.floats);
-    let mut numbers = Lent::garbage(r, call.numbers);
+    let mut out = Lent::any(r, call.out);
+    let mut floats = Lent::any(r, call.floats);
+    let mut numbers = Lent::any(r, call.numbers);
     let told = call.told;
-    let mut answer = Lent::garbage(r, told);
+    let mut answer = Lent::any(r, told);
     let (p, pl, l, ll, o, ol) = (
         points.at(),
         points.len(),
@@ -403,7 +403,7 @@ fn chosen_trials(r: &mut Random, counts: &mut Counts) {
 }
 
 /// A fault of one list or number, put into a call.
-fn spoil(r: &mut Random, call: &mut Call) -> &'static str {
+fn with_fault(r: &mut Random, call: &mut Call) -> &'static str {
     match r.below(9) {
         0 => {
             call.n = r.one_of(&[0, 1, 257, 300, 1 << 32, usize::MAX]);
@@ -487,7 +487,7 @@ fn made_up(r: &mut Random, counts: &mut Counts, at: usize) {
     }
     if r.once_in(5) {
         for _ in 0..r.from(1, 3) {
-            kinds.push(("fault", spoil(r, &mut call).to_string()));
+            kinds.push(("fault", with_fault(r, &mut call).to_string()));
         }
         if leaf == Leaf::Lloyd {
             call.k = call.list.len();
@@ -518,15 +518,18 @@ fn spread(mut times: Vec<f64>) -> (f64, f64, f64) {
     (times[0], times[times.len() / 2], times[times.len() - 1])
 }
 
-/// One sweep over every k on the Rust: milliseconds, and all labels.
-fn sweep_rust(points: &[f64], n: usize, lists: &[Vec<u64>]) -> (f64, Vec<usize>) {
+/// Every k on the Rust, with its points made once, and that counted: milliseconds, and all labels.
+fn every_rust(points: &[f64], n: usize, lists: &[Vec<u64>]) -> (f64, Vec<usize>) {
     let rows = matrix(points, n);
-    let (mut labels, mut took) = (Vec::new(), 0.0);
+    let mut labels = Vec::new();
+    let start = Instant::now();
+    let points = open::prepare(black_box(&rows));
+    let mut took = start.elapsed().as_secs_f64();
     for (at, list) in lists.iter().enumerate() {
         install(Control::new(Source::List(list.clone()), 0, usize::MAX));
         let mut rng = StdRng::seed_from_u64(0);
         let start = Instant::now();
-        let found = open::kmeans_labels(black_box(&rows), at + 2, &mut rng).expect("a k from 2 to n");
+        let found = open::kmeans_labels_of(black_box(&points), at + 2, &mut rng).expect("a k from 2 to n");
         took += start.elapsed().as_secs_f64();
         labels.extend(found);
     }
@@ -535,7 +538,7 @@ fn sweep_rust(points: &[f64], n: usize, lists: &[Vec<u64>]) -> (f64, Vec<usize>)
 }
 
 /// The same calls on the library.
-fn sweep_library(points: &[f64], n: usize, lists: &[Vec<u64>]) -> (f64, Vec<usize>) {
+fn every_leaf(points: &[f64], n: usize, lists: &[Vec<u64>]) -> (f64, Vec<usize>) {
     let (mut floats, mut numbers) = (vec![0.0; floats_for(n)], vec![0usize; numbers_for(n)]);
     let (mut labels, mut took) = (Vec::new(), 0.0);
     for (at, list) in lists.iter().enumerate() {
@@ -566,7 +569,7 @@ fn sweep_library(points: &[f64], n: usize, lists: &[Vec<u64>]) -> (f64, Vec<usiz
 }
 
 /// The same k on the inner forms, as a round calls them: the points are prepared once, and that is counted.
-fn sweep_round(points: &[f64], n: usize, lists: &[Vec<u64>]) -> (f64, Vec<usize>) {
+fn every_round(points: &[f64], n: usize, lists: &[Vec<u64>]) -> (f64, Vec<usize>) {
     let mut area = vec![0.0; 5 * n * n];
     let mut labels = Vec::new();
     let start = Instant::now();
@@ -587,8 +590,8 @@ fn sweep_round(points: &[f64], n: usize, lists: &[Vec<u64>]) -> (f64, Vec<usize>
 
 fn time(runs: usize) -> bool {
     println!("k-means for every k from 2 to n - 1, block book with noise, milliseconds: median (least to greatest).");
-    println!("As a round: the points are prepared once and k-means is called for each k. Leaf by leaf: kmeans_labels for each k,");
-    println!("which checks, prepares the points and wipes its working lists each time.");
+    println!("As a round: the points are prepared once, as on the Rust's side, and k-means is called for each k. Leaf by leaf: kmeans_labels");
+    println!("for each k, which checks, prepares the points and wipes its working lists each time.");
     println!("| names | calls | runs | Rust | as a round | ratio | leaf by leaf | ratio | labels |");
     println!("|---|---|---|---|---|---|---|---|---|");
     let mut same = true;
@@ -605,12 +608,12 @@ fn time(runs: usize) -> bool {
         };
         let (mut rust, mut round, mut library, mut equal) = (Vec::new(), Vec::new(), Vec::new(), true);
         for _ in 0..runs {
-            let (t, want) = sweep_rust(&points, n, &lists);
+            let (t, want) = every_rust(&points, n, &lists);
             rust.push(t);
-            let (t, got) = sweep_round(&points, n, &lists);
+            let (t, got) = every_round(&points, n, &lists);
             round.push(t);
             equal &= want == got;
-            let (t, got) = sweep_library(&points, n, &lists);
+            let (t, got) = every_leaf(&points, n, &lists);
             library.push(t);
             equal &= want == got;
         }
