@@ -1,19 +1,19 @@
 -- Groups with the same members have the same size and mean; distances to centroids that agree are the same.
-use Prim.Native.Nat.{_+_, _<_, suc, zero, ℕ}
+use Prim.Native.Nat.{_+_, _<_, ℕ}
 use mathlib.Core.Path.{_≡_, ap, refl, sym}
-use mathlib.Core.Logic.{⊎-elim}
-use mathlib.Core.Bool.{Bool, Bool·beq, _&&_, false, not, true}
+use mathlib.Core.Logic.{by-cases}
+use mathlib.Core.Bool.{Bool, Bool·beq, false, not, true}
 use mathlib.Core.List.{List}
 use native.Mathlib.Omega.{arith}
-use native.Mathlib.Nat.{eq-or-lt-of-le}
+use native.Mathlib.Decide.{decLt}
 use lib.Ieee.{Float, add, binary64, nan}
-use Rattle.lists.specs.Sums.{allTo, squareFrom, zero64}
-use Rattle.lists.specs.Lists.{numbers}
-use Rattle.lists.proofs.Sums.{fold-same, sum-same}
+use Rattle.lists.specs.Sums.{squareFrom, zero64}
+use Rattle.lists.specs.Lists.{numbers, firstTo}
+use Rattle.lists.proofs.First.{first-none, first-holds}
+use Rattle.lists.proofs.Sums.{all-true, fold-none, fold-same, sum-same}
 use Rattle.lists.proofs.Listed.{listed-same}
 use Rattle.centroids.specs.Groups.{distances, groupSize, mean, member, sameGroup}
 use Rattle.columns.specs.Pair.{squared}
-use Rattle.lists.proofs.Sums.{all-true}
 
 pub beq-true : (y : Bool) → Bool·beq true y ≡ not (not y)
 beq-true true = refl
@@ -55,3 +55,11 @@ distances-agree x m f g h =
 pub mean-agree : (x y : ℕ → ℕ → Float) (label : ℕ → ℕ) (m l c : ℕ) → ((i : ℕ) → i < m → x i c ≡ y i c) → mean x label m l c ≡ mean y label m l c
 mean-agree x y label m l c e =
     rw (fold-same (member label l) (member label l) (λ a k. add binary64 a (x k c)) (λ a k. add binary64 a (y k c)) zero64 m (λ k q. refl) (λ a k q. ap (add binary64 a) (e k q)))
+
+-- a group with members has a first one
+pub first-in : (label : ℕ → ℕ) (m l : ℕ) {j : ℕ} → j ≡ firstTo (member label l) m → (groupSize label m l ≡ 0 → ⊥) → (j < m) × (member label l j ≡ true)
+first-in label m l {j} e some =
+    let below : firstTo (member label l) m < m =
+    by-cases (decLt (firstTo (member label l) m) m) (λ h. h)
+    (λ h. absurd (some (fold-none (member label l) (λ n k. n + 1) 0 m (first-none (member label l) m (omega arith))))) in
+    rw e (below, first-holds (member label l) m below)

@@ -6,7 +6,7 @@ ghost use Prim.Native.Nat.{ℕ, _<_, _≤_, _*_};
 ghost use lib.Dec.{eqb};
 ghost use lib.ListN.{length};
 ghost use lib.Ieee.{binary64, add, mul, div};
-ghost use Rattle.lists.specs.Lists.{listed, cells, numbers, cellAt};
+ghost use Rattle.lists.specs.Lists.{listed, cells, numbers, cellAt, firstTo};
 ghost use Rattle.lists.specs.Sums.{sumIf};
 ghost use Rattle.centroids.specs.Groups.{one64, member, groupSize, sameGroup, meanOver, distances, Items};
 
@@ -49,10 +49,9 @@ pub fn same_group(a: &[usize], b: &[usize], l: usize) -> bool
     true
 }
 
-// A member of group l. Inner form: there is one.
-pub fn some_member(labels: &[usize], l: usize) -> usize
-    requires { ⌜ (groupSize (numbers (now labels)) (length (now labels)) l ≡ 0 → ⊥) ⌝ }
-    ensures { λ r. ⌜ (r < length (now (labels .entry))) × (member (numbers (now (labels .entry))) l r ≡ true) ⌝ }
+// The first member of group l, and how many items there are where it has none.
+pub fn first_member(labels: &[usize], l: usize) -> usize
+    ensures { λ r. ⌜ r ≡ firstTo (member (numbers (now (labels .entry))) l) (length (now (labels .entry))) ⌝ }
 {
     let m = labels.len();
     for i in 0..m {
@@ -60,7 +59,7 @@ pub fn some_member(labels: &[usize], l: usize) -> usize
             return i;
         }
     }
-    0
+    m
 }
 
 // To each sum the row's cell.

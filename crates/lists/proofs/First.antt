@@ -43,6 +43,17 @@ first-none p (suc n) h k l =
     (λ q. first-none p n (ltb-false (firstTo p n) n (s .0)) k q)
     (eq-or-lt-of-le {n = k} {m = n} (omega arith))
 
+chosen : (p : ℕ → Bool) (a b : Bool) (f n : ℕ) → p n ≡ b → (a ≡ true → p f ≡ true) → cond a f (cond b n (suc n)) < suc n → p (cond a f (cond b n (suc n))) ≡ true
+chosen p true b f n e h l = h refl
+chosen p false true f n e h l = e
+chosen p false false f n e h l = absurd (omega arith)
+
+-- the test holds at the first place
+pub first-holds : (p : ℕ → Bool) (n : ℕ) → firstTo p n < n → p (firstTo p n) ≡ true
+unfolding firstTo
+first-holds p zero l = absurd (omega arith)
+first-holds p (suc n) l = chosen p (ltb (firstTo p n) n) (p n) (firstTo p n) n refl (λ t. first-holds p n (ltb-true (firstTo p n) n t)) l
+
 -- where no number is the limit or more, each is below it
 pub from-none : (limit : ℕ) (xs : List ℕ) → length xs ≤ firstFrom limit xs → (k : ℕ) → k < length xs → numbers xs k < limit
 unfolding firstFrom

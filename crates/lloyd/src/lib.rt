@@ -86,7 +86,7 @@ fn refresh_group(
         return;
     }
     if n == 1 {
-        let j = centroids::some_member(labels, l);
+        let j = centroids::first_member(labels, l);
         copy_row(area, labels.len(), j, l);
         return;
     }

@@ -1,6 +1,8 @@
 use mathlib.Core.Path.{_∙_, sym}
 use borrow.Author.Needs.{needs}
 use Rattle.lloyd.proofs.Turn.{kept-step, mean-step, single-step, taken-step}
+use Rattle.lists.specs.Lists.{numbers}
+use Rattle.centroids.proofs.Members.{first-in}
 use Rattle.lloyd.proofs.refresh_group.Statement.{statement}
 use Rattle.lloyd.proofs.refresh_group.Tie as tie
 
@@ -25,17 +27,21 @@ same-group-requires c κs = search needs
 returns-2 : tie.Need-returns-2
 returns-2 c = kept-step (c .before .before .before .before .before .before .before .before .before .pre .0) _ _ (c .before .before .before .before .before .before .before .before .before .pre .1 .0 .1) (c .before .before .before .before .before .before .before .before .before .args .old .now) (λ z. c .before .before .if1 .left (c .before .before .before .group-size .ensures ∙ z)) (sym (c .before .same-group .ensures) ∙ c .if2 .taken) (c .before .before .before .before .before .before .before .before .before .pre .1 .1)
 
-some-member-requires : tie.Need-some-member-requires
-some-member-requires c κs = λ z. c .before .before .before .if1 .left (c .before .before .before .before .group-size .ensures ∙ z)
+first-member-requires : tie.Need-first-member-requires
+first-member-requires c κs = tt
 
 copy-row-requires : tie.Need-copy-row-requires
-copy-row-requires c κs = (c .before .before .before .before .before .before .before .before .before .before .before .before .pre .0, c .before .some-member .ensures .0, c .before .before .before .before .before .before .before .before .before .before .before .before .pre .1 .0 .1)
+copy-row-requires c κs =
+    let f = first-in (numbers (c .before .before .before .before .before .before .before .before .before .before .before .before .args .labels .now)) _ (c .before .before .before .before .before .before .before .before .before .before .before .before .args .l) (c .before .first-member .ensures) (λ z. c .before .before .before .before .before .if1 .left (c .before .before .before .before .before .before .group-size .ensures ∙ z)) in
+    (c .before .before .before .before .before .before .before .before .before .before .before .before .pre .0, f .0, c .before .before .before .before .before .before .before .before .before .before .before .before .pre .1 .0 .1)
 
 same-length-3 : tie.Need-same-length-3
 same-length-3 c = search needs
 
 returns-3 : tie.Need-returns-3
-returns-3 c = single-step (c .before .before .before .before .before .before .before .before .before .before .before .before .before .before .before .pre .0) _ _ (c .before .before .before .before .before .before .before .before .before .before .before .before .before .before .before .pre .1 .0 .1) (c .before .before .before .before .some-member .result) (c .before .before .before .before .before .before .before .before .before .before .before .before .before .before .slice-known .given) (sym (c .before .before .before .before .before .before .before .before .before .group-size .ensures) ∙ c .before .before .before .before .before .if3 .taken) (c .before .before .before .before .some-member .ensures .0) (c .before .before .before .before .some-member .ensures .1) (c .before .before .copy-row .ensures)
+returns-3 c =
+    let f = first-in (numbers (c .before .before .before .before .before .before .before .before .before .before .before .before .before .before .before .args .labels .now)) _ (c .before .before .before .before .before .before .before .before .before .before .before .before .before .before .before .args .l) (c .before .before .before .before .first-member .ensures) (λ z. c .before .before .before .before .before .before .before .before .if1 .left (c .before .before .before .before .before .before .before .before .before .group-size .ensures ∙ z)) in
+    single-step (c .before .before .before .before .before .before .before .before .before .before .before .before .before .before .before .pre .0) _ _ (c .before .before .before .before .before .before .before .before .before .before .before .before .before .before .before .pre .1 .0 .1) (c .before .before .before .before .first-member .result) (c .before .before .before .before .before .before .before .before .before .before .before .before .before .before .slice-known .given) (sym (c .before .before .before .before .before .before .before .before .before .group-size .ensures) ∙ c .before .before .before .before .before .if3 .taken) (f .0) (f .1) (c .before .before .copy-row .ensures)
 
 set-mean-requires : tie.Need-set-mean-requires
 set-mean-requires c κs = search needs
@@ -60,7 +66,7 @@ refresh-group-spec =
     returns
     same-group-requires
     returns-2
-    some-member-requires
+    first-member-requires
     copy-row-requires
     same-length-3
     returns-3
