@@ -165,6 +165,15 @@ module _ (x : ℕ → ℕ → Float) (m : ℕ) (back : List Float) where
   third-is : part (2 * (m * m)) (m * m) (pairsArea x m ++ back) ≡ grid (squaredAt x m) m
   third-is = rw from-third (take-at (grid (squaredAt x m) m) _ (m * m) (long (squaredAt x m)))
 
+  from-fourth : drop (3 * (m * m)) (pairsArea x m ++ back) ≡ grid (pairAt x m) m ++ back
+  from-fourth =
+      let e : 2 * (m * m) + m * m ≡ 3 * (m * m) = omega arith in
+      rw (← e) (sym (drop-drop (m * m) (2 * (m * m)) (pairsArea x m ++ back)) ∙ ap (drop (m * m)) from-third ∙ drop-at (grid (squaredAt x m) m) _ (m * m) (long (squaredAt x m)))
+
+  -- the pair distances
+  pub fourth-is : part (3 * (m * m)) (m * m) (pairsArea x m ++ back) ≡ grid (pairAt x m) m
+  fourth-is = rw from-fourth (take-at (grid (pairAt x m) m) back (m * m) (long (pairAt x m)))
+
   -- the points that k-means reads there are x
   pub pairs-points : (i c : ℕ) → i < m → c < m → pointsAt (pairsArea x m ++ back) m i c ≡ x i c
   pairs-points i c h l = in-grid x m i c nan first-is h l

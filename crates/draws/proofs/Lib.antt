@@ -2,4 +2,5 @@
 pub mod Table
 pub mod Counting
 pub mod Taken
+pub mod Bad
 pub mod Shares

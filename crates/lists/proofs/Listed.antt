@@ -1,7 +1,7 @@
 -- Lists that a loop fills cell by cell, and lists that are given by their cells.
 use Prim.Native.Nat.{ℕ, zero, suc, _+_, _<_, _≤_}
 use mathlib.Core.Path.{_≡_, refl, sym, _∙_, ap}
-use mathlib.Core.List.{List, [], _∷_, _++_, append-assoc}
+use mathlib.Core.List.{List, [], _∷_, _++_, map, append-assoc}
 use mathlib.Core.Logic.{⊎-elim, by-cases}
 use native.Mathlib.Numerals.{add-one}
 use native.Mathlib.Nat.{eq-or-lt-of-le, ne-of-lt}
@@ -128,3 +128,9 @@ module _ {A : Type 0} where
   writes-front z f (suc n) d h =
       rw (writes-front z f n d (omega arith), drop-cons d n z h, listed-snoc f n)
       (set-at (listed f n) (getD d n z) (drop (suc n) d) (f n) n (length-listed f n) ∙ sym (append-assoc (listed f n) (f n ∷ []) (drop (suc n) d)))
+
+-- a function of each cell
+pub listed-map : {A B : Type 0} (f : A → B) (z : A) (xs : List A) → listed (λ k. f (getD xs k z)) (length xs) ≡ map f xs
+unfolding listed
+listed-map f z [] = refl
+listed-map f z (x ∷ xs) = ap (λ l. f x ∷ l) (listed-map f z xs)

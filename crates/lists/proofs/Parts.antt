@@ -1,13 +1,13 @@
 -- Laws of parts of lists, and of loops that fill or copy from the front. `part a k l` is the k elements from a on.
 -- Assumes nothing.
 use mathlib.Core.Path.{_≡_, refl, sym, ap, _∙_}
-use mathlib.Core.List.{List, [], _∷_, _++_, append-nil}
+use mathlib.Core.List.{List, [], _∷_, _++_, append-nil, append-assoc}
 use Prim.Native.Nat.{ℕ, zero, suc, _+_, _-_, _<_, _≤_}
 use native.Mathlib.Nat.{not-suc-le-zero, le-of-suc-le-suc}
 use native.Mathlib.Numerals.{add-one}
 use native.Mathlib.Omega.{arith}
-use lib.ListN.{length, take, drop, set, getD, replicate, length-append, length-take, length-drop, drop-of-length-le}
-use lib.Seq.{getD-take, getD-drop, take-suc-set, take-all, take-suc, take-append-le, take-at, drop-at, take-take, drop-drop, take-set-le, drop-set-lt, take-set-lt, drop-set-add, length-take-le}
+use lib.ListN.{length, take, drop, set, getD, replicate, length-append, length-take, length-drop, drop-of-length-le, take-append-drop}
+use lib.Seq.{getD-take, getD-drop, take-suc-set, take-all, take-suc, take-append-le, take-at, drop-at, take-take, drop-drop, take-set-le, drop-set-lt, take-set-lt, drop-set-add, length-take-le, take-add, drop-cons, set-at}
 use Rattle.lists.specs.Lists.{part, put}
 
 module _ {A : Type 0} where
@@ -168,3 +168,25 @@ module _ {A : Type 0} (a : ℕ) (xs : List A) (inside : a ≤ length xs) where
     tail-behind b e =
         sym (drop-drop b a (put a (length xs - a) xs ys)) ∙ ap (λ (x : List A). drop b x) tail-rest ∙ e
         ∙ ap (λ (x : List A). drop b x) tail-is ∙ drop-drop b a xs
+
+-- A part that was put at the front of what follows: what stands up to its end, one more element behind it, and no element at all.
+module _ {A : Type 0} (a k : ℕ) (xs ys : List A) where
+  pub put-to : a + k ≤ length xs → length ys ≡ k → take (a + k) (put a k xs ys) ≡ take a xs ++ ys
+  put-to h e = take-add a k (put a k xs ys) ∙ rw (put-take a k xs ys h e a (omega arith), put-part a k xs ys h e)
+
+  pub put-push : (v : A) → a + k < length xs → length ys ≡ k → set (put a k xs ys) (a + k) v ≡ put a (k + 1) xs (ys ++ (v ∷ []))
+  put-push v h e =
+      let inside : k < length (drop a xs) = simp length-drop (omega arith) in
+      let rest = drop (suc k) (drop a xs) in
+      let y = getD (drop a xs) k v in
+      let front : length (take a xs ++ ys) ≡ a + k = length-append (take a xs) ys ∙ rw (length-take-le a xs (omega arith), e) in
+      let open-up : put a k xs ys ≡ (take a xs ++ ys) ++ (y ∷ rest) = rw (drop-cons (drop a xs) k v inside) (sym (append-assoc (take a xs) ys (y ∷ rest))) in
+      ap (λ (l : List A). set l (a + k) v) open-up
+      ∙ set-at (take a xs ++ ys) y rest v (a + k) front
+      ∙ append-assoc (take a xs) ys (v ∷ rest)
+      ∙ ap (λ (l : List A). take a xs ++ l) (sym (append-assoc ys (v ∷ []) rest))
+      ∙ ap (λ (n : ℕ). take a xs ++ ((ys ++ (v ∷ [])) ++ drop n (drop a xs))) (sym (add-one k))
+
+module _ {A : Type 0} where
+  pub put-none : (a : ℕ) (xs : List A) → xs ≡ put a 0 xs []
+  put-none a xs = sym (take-append-drop a xs)

@@ -1,7 +1,7 @@
--- The least mean: one more group, groups that have no member, NaNs; and that a score needs the distances below n alone.
+-- The least mean: one more group, groups that have no member, NaNs; and that a score needs the distances and the labels below n alone.
 use Prim.Native.Nat.{ℕ, zero, suc, _+_, _<_, _≤_}
 use mathlib.Core.Path.{_≡_, refl, sym, _∙_, ap, subst}
-use mathlib.Core.Bool.{Bool, true, false, cond, _||_}
+use mathlib.Core.Bool.{Bool, true, false, cond, not, _&&_, _||_}
 use mathlib.Core.Logic.{⊎-elim}
 use native.Mathlib.Numerals.{add-one}
 use native.Mathlib.Nat.{eq-or-lt-of-le}
@@ -95,11 +95,11 @@ pub score-low : (a : Float) → scoreOf a (inf true) ≡ zero64
 unfolding scoreOf
 score-low a = refl
 
--- sums that agree have the same least mean
-pub least-same : (s t : ℕ → Float) (c : ℕ → ℕ) (own n : ℕ) → ((l : ℕ) → s l ≡ t l) → least s c own n ≡ least t c own n
+-- sums and counts that agree have the same least mean
+pub least-same : (s t : ℕ → Float) (c d : ℕ → ℕ) (own n : ℕ) → ((l : ℕ) → s l ≡ t l) → ((l : ℕ) → c l ≡ d l) → least s c own n ≡ least t d own n
 unfolding least
-least-same s t c own zero e = refl
-least-same s t c own (suc n) e = rw (e n, least-same s t c own n e)
+least-same s t c d own zero e g = refl
+least-same s t c d own (suc n) e g = rw (e n, g n, least-same s t c d own n e g)
 
 -- distances that agree below n give the same score
 pub score-same : (d f : ℕ → Float) (label : ℕ → ℕ) (n i : ℕ) → ((j : ℕ) → j < n → d j ≡ f j) → silhouette d label n i ≡ silhouette f label n i
@@ -108,4 +108,15 @@ score-same d f label n i e =
     let sums : (l : ℕ) → groupSum d label n i l ≡ groupSum f label n i l =
     λ l. fold-same (member label i l) (member label i l) (λ x k. add binary64 x (d k)) (λ x k. add binary64 x (f k)) zero64 n
     (λ k b. refl) (λ x k b. ap (add binary64 x) (e k b)) in
-    rw (sums (label i), least-same (groupSum d label n i) (groupSum f label n i) (groupCount label n i) (label i) n sums)
+    rw (sums (label i), least-same (groupSum d label n i) (groupSum f label n i) (groupCount label n i) (groupCount label n i) (label i) n sums (λ l. refl))
+
+-- labels that agree below n give the same score
+pub score-labels : (d : ℕ → Float) (f g : ℕ → ℕ) (n i : ℕ) → i < n → ((j : ℕ) → j < n → f j ≡ g j) → silhouette d f n i ≡ silhouette d g n i
+unfolding scoreFrom
+score-labels d f g n i h e =
+    let alike : (l j : ℕ) → j < n → member f i l j ≡ member g i l j = λ l j b. ap (λ (x : ℕ). eqb x l && not (eqb j i)) (e j b) in
+    let sums : (l : ℕ) → groupSum d f n i l ≡ groupSum d g n i l =
+    λ l. fold-same (member f i l) (member g i l) (λ x k. add binary64 x (d k)) (λ x k. add binary64 x (d k)) zero64 n (alike l) (λ x k b. refl) in
+    let counts : (l : ℕ) → groupCount f n i l ≡ groupCount g n i l =
+    λ l. fold-same (member f i l) (member g i l) (λ c k. c + 1) (λ c k. c + 1) 0 n (alike l) (λ c k b. refl) in
+    rw (e i h, sums (g i), counts (g i), least-same (groupSum d f n i) (groupSum d g n i) (groupCount f n i) (groupCount g n i) (g i) n sums counts)

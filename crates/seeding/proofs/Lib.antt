@@ -2,4 +2,5 @@
 pub mod Turns
 pub mod Seeds
 pub mod Same
+pub mod Bad
 pub mod Examples
