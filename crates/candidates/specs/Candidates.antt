@@ -1,0 +1,68 @@
+-- The candidates of a round of m items, whose columns are x, and the best of them. Definitions only.
+use Prim.Native.Nat.{ℕ, zero, suc, _+_, _-_, max}
+use mathlib.Core.Bool.{Bool, true, cond, _&&_, _||_}
+use mathlib.Core.List.{List}
+use lib.ListN.{length}
+use lib.Ieee.{Float, inf, lt, eq}
+use Rattle.lists.specs.Lists.{cells, numbers}
+use Rattle.tstat.specs.Quality.{tstatOf, plainMean}
+use Rattle.draws.specs.Counts.{seedingOf, countOf}
+use Rattle.draws.specs.Draws.{Drawn, drawn, andThen}
+use Rattle.clustering.specs.Clustering.{kmeansOf}
+use Rattle.scoring.specs.Scoring.{scoresOf}
+
+-- a candidate: the label and the score of each item, the scores' t-stat and their plain mean
+pub record Candidate : Type 0 where
+  pub labels : List ℕ
+  pub scores : List Float
+  pub stat : Float
+  pub mean : Float
+
+abbrev pub candidate : List ℕ → List Float → Candidate
+candidate labels scores =
+    record {
+      labels = labels;
+      scores = scores;
+      stat = tstatOf (cells scores) (length scores);
+      mean = plainMean (cells scores) (length scores);
+    }
+
+abbrev pub candidateOf : (ℕ → ℕ → Float) → ℕ → List ℕ → Candidate
+candidateOf x m labels = candidate labels (scoresOf x m (numbers labels))
+
+-- the candidate with k groups; `at` is the place of the first draw
+unfoldable pub candidateFrom : (ℕ → ℕ → Float) → ℕ → ℕ → ℕ → List ℕ → Drawn Candidate
+candidateFrom x m k at ds = andThen (kmeansOf x m k at ds) (λ g rest. drawn (candidateOf x m (g .labels)) rest)
+
+-- the best candidate so far, if there is one
+pub data Best : Type 0 where
+  nothing : Best
+  found : Candidate → Best
+
+-- whether a t-stat and its mean replace those of the best: the t-stat is greater, or equal with a greater mean; a NaN is neither
+unfoldable pub replaces : Float → Float → Float → Float → Bool
+replaces stat mean bestStat bestMean = lt bestStat stat || (eq stat bestStat && lt bestMean mean)
+
+-- the first one need only be above -infinity
+abbrev pub keep : Candidate → Best → Best
+keep c nothing = cond (lt (inf true) (c .stat)) (found c) nothing
+keep c (found b) = cond (replaces (c .stat) (c .mean) (b .stat) (b .mean)) (found c) (found b)
+
+-- the best after j candidates more, with k, k + 1, .. groups; `at` is the place of the first draw
+unfoldable pub triesFrom : (ℕ → ℕ → Float) → ℕ → ℕ → ℕ → Best → ℕ → List ℕ → Drawn Best
+triesFrom x m k zero best at ds = drawn best ds
+triesFrom x m k (suc j) best at ds =
+    andThen (kmeansOf x m k at ds) (λ g rest. triesFrom x m (suc k) j (keep (candidateOf x m (g .labels)) best) (at + seedingOf k) rest)
+
+-- how many candidates a repeat has: one for each number of groups from 2 to max(m - 1, 2)
+abbrev pub tries : ℕ → ℕ
+tries m = max 2 (m - 1) - 1
+
+-- the best after r repeats more
+unfoldable pub repeatsFrom : (ℕ → ℕ → Float) → ℕ → ℕ → Best → ℕ → List ℕ → Drawn Best
+repeatsFrom x m zero best at ds = drawn best ds
+repeatsFrom x m (suc r) best at ds = andThen (triesFrom x m 2 (tries m) best at ds) (λ b rest. repeatsFrom x m r b (at + countOf m) rest)
+
+-- the best of all candidates of a round
+unfoldable pub bestOf : (ℕ → ℕ → Float) → ℕ → ℕ → ℕ → List ℕ → Drawn Best
+bestOf x m repeats at ds = repeatsFrom x m repeats nothing at ds
