@@ -14,4 +14,4 @@ use Rattle.examples.specs.Starred.{table, AllHold, answer, given}
 
 pub examples-hold : AllHold table
 unfolding AllHold answer given listed firstTo firstFrom when unless refusal sumTo allTo foldIf root constant exactMean varianceAbout varianceOf averaged ratio tstatOf least scoreOf scoreFrom scoreAt seedingsOf countOf ofBits toBits ofInt add sub mul div lt le eq isNan
-examples-hold = (refl, (refl, (refl, (refl, (refl, (refl, (refl, (refl, (refl, (refl, (refl, (refl, (refl, (refl, (refl, tt)))))))))))))))
+examples-hold = (refl, (refl, (refl, (refl, (refl, (refl, (refl, (refl, (refl, (refl, (refl, (refl, (refl, (refl, (refl, (refl, (refl, tt)))))))))))))))))

@@ -14,6 +14,7 @@ use Rattle.tstat.specs.Quality as quality
 use Rattle.refusals.specs.Table.{refusal}
 use Rattle.silhouette.specs.Leaf.{scoreAt}
 use Rattle.draws.specs.Counts.{countOf}
+use Rattle.choice.specs.Choice.{chosen}
 
 -- which definition is asked, and of what
 pub data Question : Type 0 where
@@ -23,6 +24,7 @@ pub data Question : Type 0 where
   the-tstat : List Float → Question
   the-scores : List Float → List ℕ → Question
   the-draws : ℕ → Question
+  the-choice : Float → Float → Question
 
 -- an answer: the table's number, and the values, doubles or whole numbers
 pub record Answered : Type 0 where
@@ -45,6 +47,8 @@ answer (the-scores pairs labels) =
     valued (refusal (length pairs) (length labels) (length labels) true (firstFrom (length labels) labels) (length labels) .number)
     (listed (scoreAt pairs (length labels) labels) (length labels))
 answer (the-draws m) = record { number = 0; values = []; counts = countOf m ∷ [] }
+-- the mean t-stat of the new list, then that of the old one; the old list is 0, the new one 1
+answer (the-choice newMean oldMean) = record { number = 0; values = []; counts = chosen newMean oldMean (0 ∷ []) (1 ∷ []) }
 
 pub record Example : Type 0 where
   pub asked : Question
@@ -100,6 +104,9 @@ table =
     ∷ (record { asked = the-draws 3; expected = count 3 })
     ∷ (record { asked = the-draws 4; expected = count 10 })
     ∷ (record { asked = the-draws 12; expected = count 208 })
+    -- the choice with 1.5 against 1.5 is the old list, with 2.0 against 1.5 the new one
+    ∷ (record { asked = the-choice (scaled 3 0) (scaled 3 0); expected = count 0 })
+    ∷ (record { asked = the-choice (fin false 1 (pos 1)) (scaled 3 0); expected = count 1 })
     ∷ []
 
 -- each question of the list has the answer that stands beside it

@@ -1,0 +1,2 @@
+-- The choice between the old partition and the new one.
+pub mod Choice
