@@ -1,0 +1,2 @@
+-- From the best candidate to the base of a round.
+pub mod Laws

@@ -1,0 +1,3 @@
+-- The weak groups, the merged ones, and their scores.
+pub mod Merged
+pub mod Laws
