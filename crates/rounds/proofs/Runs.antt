@@ -1,0 +1,128 @@
+-- Laws of the definition of a round: its equations by case, and what a round that starts takes and has.
+use Prim.Native.Nat.{ℕ, zero, suc, _+_, _<_, _≤_}
+use mathlib.Core.Path.{_≡_, refl, _∙_, ap, subst}
+use mathlib.Core.Bool.{Bool, true, false, cond}
+use mathlib.Core.List.{List, [], _∷_}
+use native.Mathlib.Omega.{arith}
+use borrow.Author.Tests.{le-leb, lt-leb, leb-false}
+use lib.Dec.{ltb, leb}
+use lib.ListN.{length, drop, length-map}
+use lib.Ieee.{Float}
+use Rattle.lists.specs.Lists.{numbers}
+use Rattle.draws.specs.Draws.{Drawn, drawn, refused}
+use Rattle.draws.specs.declared.Stop.{Stop}
+use Rattle.draws.specs.declared.Stop.the-variants.{Rounds, Short}
+use Rattle.draws.proofs.Taken.{Ends}
+use Rattle.distance.specs.Distance.{distAt}
+use Rattle.partition.specs.Partition.{Partition, State}
+use Rattle.quality.specs.Quality.{qualitiesOf, weakCount}
+use Rattle.candidates.specs.Candidates.{Candidate, Best, nothing, found, bestOf}
+use Rattle.base.specs.Base.{baseOf}
+use Rattle.improve.specs.Improve.{weakItems}
+use Rattle.rounds.specs.Round.{Run, done, ended, Opening, started, unstarted, ofBest, openingOf, afterOpening, roundOf, needOf, rowsOf, settled}
+use Rattle.scoring.proofs.Laws.{scores-length}
+use Rattle.partition.proofs.Groups.{groups-partition}
+use Rattle.candidates.proofs.Laws.{best-took, Found}
+use Rattle.improve.proofs.Merged.{weak-many, better-partition, better-scores}
+
+-- how many groups of a base are weak
+abbrev pub weakIn : State → ℕ
+weakIn s = weakCount (qualitiesOf (s .scores) (s .groups))
+
+-- the definition, by case
+module _ (book : List Float) (n repeats left : ℕ) (rows : List ℕ) (read : ℕ) (ds : List ℕ) where
+  pub round-none : left ≡ 0 → roundOf book n repeats left rows read ds ≡ ended Rounds []
+  unfolding roundOf
+  round-none e = rw e
+
+  pub round-refused : (s : Stop) (ms : List ℕ) → openingOf book n repeats rows read ds ≡ unstarted s ms → roundOf book n repeats (suc left) rows read ds ≡ ended s ms
+  unfolding roundOf afterOpening
+  round-refused s ms e = rw e
+
+  module _ (base : State) (rest : List ℕ) (e : openingOf book n repeats rows read ds ≡ started base rest) where
+    pub round-kept : weakIn base ≤ 2 → roundOf book n repeats (suc left) rows read ds ≡ done base (length rows ∷ []) (read + needOf repeats (length rows)) rest
+    unfolding roundOf afterOpening
+    round-kept h = rw (e, le-leb (weakIn base) 2 h)
+
+    pub round-again : 2 < weakIn base
+        → roundOf book n repeats (suc left) rows read ds
+        ≡ settled (distAt book n rows) (length rows) base (roundOf book n repeats left (rowsOf rows (weakItems base)) (read + needOf repeats (length rows)) rest)
+    unfolding roundOf afterOpening
+    round-again h = rw (e, lt-leb (weakIn base) 2 h)
+
+-- a round that starts took exactly its count of the draws; its base is a partition of its items, with a score for each
+abbrev pub OpeningTook : ℕ → List ℕ → ℕ → Opening → Type 0
+OpeningTook c ds m (started base rest) = Partition m (base .groups) × (length (base .scores) ≡ m) × (rest ≡ drop c ds) × (c ≤ length ds)
+OpeningTook c ds m (unstarted s ms) = Unit
+
+-- the base of a candidate
+base-whole : (x : ℕ → ℕ → Float) (m : ℕ) (c : Candidate) → Found x m (found c) → Partition m (baseOf m c .groups) × (length (baseOf m c .scores) ≡ m)
+base-whole x m c h =
+    (groups-partition (numbers (c .labels)) m (h .1), ap (λ (k : Candidate). length (k .scores)) (h .2) ∙ scores-length x m (numbers (c .labels)))
+
+pub opening-took : (book : List Float) (n repeats : ℕ) (rows : List ℕ) (read : ℕ) (ds : List ℕ) → 2 ≤ length rows
+    → OpeningTook (needOf repeats (length rows)) ds (length rows) (openingOf book n repeats rows read ds)
+unfolding openingOf
+opening-took book n repeats rows read ds some = by-test (ltb (length ds) c)
+  where
+    x : ℕ → ℕ → Float
+    x = distAt book n rows
+
+    m : ℕ
+    m = length rows
+
+    c : ℕ
+    c = needOf repeats (length rows)
+
+    of-best : (D : Drawn Best) → Ends (λ b rest. Found x m b × (rest ≡ drop c ds) × (c ≤ length ds)) (λ p. (read ≤ p) × (p < read + c)) D → OpeningTook c ds m (ofBest m D)
+    of-best (drawn nothing rest) h = tt
+    of-best (drawn (found k) rest) h = let b = base-whole x m k (h .0) in (b .0, b .1, h .1, h .2)
+    of-best (refused p) h = tt
+
+    by-test : (t : Bool) → OpeningTook c ds m (cond t (unstarted (Short read) []) (ofBest m (bestOf x m repeats read ds)))
+    by-test true = tt
+    by-test false = of-best (bestOf x m repeats read ds) (best-took x m repeats some read ds)
+
+-- a run that ends in groups ends in a partition of the first round's m items, with a score for each
+abbrev pub Whole : ℕ → Run → Type 0
+Whole m (done s ms read rest) = Partition m (s .groups) × (length (s .scores) ≡ m)
+Whole m (ended s ms) = Unit
+
+module _ (book : List Float) (n repeats left : ℕ) (rows : List ℕ) (read : ℕ) where
+  abbrev Before : Type 0
+  Before = (rows : List ℕ) (read : ℕ) (ds : List ℕ) → 2 ≤ length rows → Whole (length rows) (roundOf book n repeats left rows read ds)
+
+  inner-whole : (base : State) → Partition (length rows) (base .groups) → length (base .scores) ≡ length rows → (r : Run) → Whole (length (weakItems base)) r
+      → Whole (length rows) (settled (distAt book n rows) (length rows) base r)
+  inner-whole base h l (ended s ms) w = tt
+  inner-whole base h l (done s ms last rest) w = (
+    better-partition (distAt book n rows) (length rows) base (s .groups) h (w .0),
+    better-scores (distAt book n rows) (length rows) base (s .groups) l,
+  )
+
+  started-whole : Before → (base : State) (rest : List ℕ) → Partition (length rows) (base .groups) → length (base .scores) ≡ length rows → (t : Bool) → leb (weakIn base) 2 ≡ t
+      → Whole (length rows) (cond t (done base (length rows ∷ []) read rest) (settled (distAt book n rows) (length rows) base (roundOf book n repeats left (rowsOf rows (weakItems base)) read rest)))
+  started-whole ih base rest h l true e = (h, l)
+  started-whole ih base rest h l false e =
+      let long : length (rowsOf rows (weakItems base)) ≡ length (weakItems base) = length-map (weakItems base) (numbers rows) in
+      let some : 2 ≤ length (rowsOf rows (weakItems base)) = omega (arith, long, leb-false (weakIn base) 2 e, weak-many (length rows) base h) in
+      let r = roundOf book n repeats left (rowsOf rows (weakItems base)) read rest in
+      inner-whole base h l r (subst (λ (k : ℕ). Whole k r) long (ih (rowsOf rows (weakItems base)) read rest some))
+
+  after-whole : Before → (c : ℕ) (ds : List ℕ) (o : Opening) → OpeningTook c ds (length rows) o
+      → Whole (length rows) (afterOpening (roundOf book n repeats left) book n rows read o)
+  unfolding afterOpening
+  after-whole ih c ds (unstarted s ms) h = tt
+  after-whole ih c ds (started base rest) h = started-whole ih base rest (h .0) (h .1) (leb (weakIn base) 2) refl
+
+pub whole : (book : List Float) (n repeats left : ℕ) (rows : List ℕ) (read : ℕ) (ds : List ℕ) → 2 ≤ length rows → Whole (length rows) (roundOf book n repeats left rows read ds)
+unfolding roundOf
+whole book n repeats zero rows read ds some = tt
+whole book n repeats (suc left) rows read ds some =
+    after-whole book n repeats left rows (read + needOf repeats (length rows)) (whole book n repeats left) (needOf repeats (length rows)) ds (openingOf book n repeats rows read ds)
+    (opening-took book n repeats rows read ds some)
+
+-- where a round's result is known
+pub done-whole : (book : List Float) (n repeats left : ℕ) (rows : List ℕ) (read : ℕ) (ds : List ℕ) (s : State) (ms : List ℕ) (last : ℕ) (rest : List ℕ) → 2 ≤ length rows
+    → roundOf book n repeats left rows read ds ≡ done s ms last rest → Partition (length rows) (s .groups) × (length (s .scores) ≡ length rows)
+done-whole book n repeats left rows read ds s ms last rest some e = subst (Whole (length rows)) e (whole book n repeats left rows read ds some)

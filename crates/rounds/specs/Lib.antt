@@ -1,0 +1,3 @@
+-- The rounds of a run: Round.antt is the definition, Steps.antt what the functions of the start of a round ask and leave.
+pub mod Round
+pub mod Steps

@@ -1,0 +1,97 @@
+-- What the functions of the start of a round ask and leave. Definitions only.
+-- A round with `left` rounds left works in its tails of the run's two lists. Numbers: its rows, its base's order, its base's sizes, n places
+-- each, then the tail of the round below. Doubles: its base's scores, n places, then the tail of the round below; the areas stand behind the
+-- scores of all rounds, at left * n.
+use Prim.Native.Nat.{ℕ, _+_, _*_, _<_, _≤_}
+use mathlib.Core.Path.{_≡_}
+use mathlib.Core.List.{List}
+use lib.ListN.{length, take, drop}
+use lib.Ieee.{Float}
+use Rattle.lists.specs.Lists.{numbers, part}
+use Rattle.partition.specs.Partition.{State, joined}
+use Rattle.partition.specs.Orders.{sizesOf}
+use Rattle.quality.specs.Quality.{qualitiesOf, weakCount}
+use Rattle.improve.specs.Improve.{weakItems}
+use Rattle.rounds.specs.declared.Begun.{Begun}
+use Rattle.rounds.specs.declared.Begun.the-variants as begun
+use Rattle.rounds.specs.Round.{Opening, started, unstarted, rowsOf, needOf}
+
+-- the book, the rows of the round's m items at the front of its numbers, and the draws
+pub record Book (book : List Float) (n m repeats : ℕ) (draws : List ℕ) (read : ℕ) (wi : List ℕ) : Type 0 where
+  pub two : 2 ≤ m
+  pub items : m ≤ n
+  pub few : n ≤ 256
+  pub some : 1 ≤ repeats
+  pub times : repeats ≤ 64
+  pub square : length book ≡ n * n
+  pub told : read ≤ length draws
+  pub rows : (j : ℕ) → j < m → numbers wi j < n
+
+-- the base of a round stands in its numbers and doubles
+pub record BaseAt (n m : ℕ) (s : State) (wi : List ℕ) (wf : List Float) : Type 0 where
+  pub order-at : part n m wi ≡ joined (s .groups)
+  pub sizes-at : part (2 * n) m wi ≡ sizesOf m (s .groups)
+  pub scores-at : take m wf ≡ s .scores
+
+-- the answer of a start: how many groups the base has, how many are weak, how many items those have, and the draws read
+abbrev pub begunOf : ℕ → Opening → Begun
+begunOf read (started s rest) = begun.Base (length (s .groups)) (weakCount (qualitiesOf (s .scores) (s .groups))) (length (weakItems s)) read
+begunOf read (unstarted s ms) = begun.Stopped s
+
+-- what it leaves: the rows, the base, and the rows of the weak items at the front of the round below
+abbrev pub Starts : Opening → ℕ → ℕ → List ℕ → List ℕ → List Float → Type 0
+Starts (started s rest) n m rows wi wf =
+    (take m wi ≡ rows) × BaseAt n m s wi wf × (part (3 * n) (length (weakItems s)) wi ≡ rowsOf rows (weakItems s))
+Starts (unstarted s ms) n m rows wi wf = Unit
+
+pub record Begins (o : Opening) (n m left read : ℕ) (a : Begun) (wi wi′ : List ℕ) (wf wf′ : List Float) : Type 0 where
+  pub answer-is : a ≡ begunOf read o
+  pub starts : Starts o n m (take m wi) wi′ wf′
+  pub behind : drop (4 * n) wi′ ≡ drop (4 * n) wi
+  pub beyond : drop (left * n + 5 * (n * n)) wf′ ≡ drop (left * n + 5 * (n * n)) wf
+
+-- places for the base in the numbers and the doubles of a round over m items
+pub record Room (n m : ℕ) (wi : List ℕ) (wf : List Float) : Type 0 where
+  pub items : m ≤ n
+  pub few : n ≤ 256
+  pub room : 3 * n ≤ length wi
+  pub space : n ≤ length wf
+
+-- the base has been put there, and nothing else was touched
+pub record Stored (n : ℕ) (order sizes : List ℕ) (scores : List Float) (wi wi′ : List ℕ) (wf wf′ : List Float) : Type 0 where
+  pub rows-kept : take n wi′ ≡ take n wi
+  pub order-at : part n (length order) wi′ ≡ order
+  pub sizes-at : part (2 * n) (length order) wi′ ≡ sizes
+  pub scores-at : take (length order) wf′ ≡ scores
+  pub behind : drop (3 * n) wi′ ≡ drop (3 * n) wi
+  pub beyond : drop n wf′ ≡ drop n wf
+
+-- items of a round over m, and a place for their rows
+pub record Marking (n m : ℕ) (items wi : List ℕ) : Type 0 where
+  pub within : m ≤ n
+  pub few : n ≤ 256
+  pub fewer : length items ≤ n
+  pub below : (j : ℕ) → j < length items → numbers items j < m
+  pub room : 4 * n ≤ length wi
+
+pub record Placed (n m : ℕ) (items wi wi′ : List ℕ) : Type 0 where
+  pub rows-at : part (3 * n) (length items) wi′ ≡ rowsOf (take m wi) items
+  pub front : take (3 * n) wi′ ≡ take (3 * n) wi
+  pub behind : drop (4 * n) wi′ ≡ drop (4 * n) wi
+
+-- the weak groups of s, their items, and the rows of these
+pub record Marked (n m : ℕ) (s : State) (groups items : ℕ) (wi wi′ : List ℕ) : Type 0 where
+  pub groups-are : groups ≡ weakCount (qualitiesOf (s .scores) (s .groups))
+  pub items-are : items ≡ length (weakItems s)
+  pub rows-at : part (3 * n) (length (weakItems s)) wi′ ≡ rowsOf (take m wi) (weakItems s)
+  pub front : take (3 * n) wi′ ≡ take (3 * n) wi
+  pub behind : drop (4 * n) wi′ ≡ drop (4 * n) wi
+
+-- a book whose round may start: there are draws enough
+pub record Opens (book : List Float) (n m repeats : ℕ) (draws : List ℕ) (read left : ℕ) (wi : List ℕ) (wf : List Float) : Type 0 where
+  pub reads : Book book n m repeats draws read wi
+  pub enough : read + needOf repeats m ≤ length draws
+  pub one : 1 ≤ left
+  pub level : left ≤ 32
+  pub room : 4 * n ≤ length wi
+  pub space : left * n + 5 * (n * n) ≤ length wf

@@ -1,0 +1,106 @@
+// A round: its start, the re-clustering of its weak items, which is the whole round again on a book of their own, and the choice between the
+// two partitions. Inner form, for the public call.
+ghost use mathlib.Core.Path.{_≡_};
+ghost use Prim.Native.Nat.{_*_};
+ghost use lib.ListN.{length, take, drop};
+ghost use Rattle.lists.specs.Lists.{part};
+ghost use Rattle.rounds.specs.Round.{roundOf};
+ghost use Rattle.rounds.specs.Steps.{Room};
+ghost use Rattle.top.specs.Steps.{Ready, Rounded};
+use draws::Stop;
+use rounds::Begun;
+
+// How many groups, and the draws read; or what ends the run.
+pub enum Top {
+    Done(usize, usize),
+    Stopped(Stop),
+}
+
+// The base as the answer.
+fn keep(
+    n: usize,
+    order: &mut [usize],
+    sizes: &mut [usize],
+    scores: &mut [f64],
+    wi: &[usize],
+    wf: &[f64],
+)
+    requires { ⌜ Room n (length (now order)) (now wi) (now wf) × (length (now sizes) ≡ length (now order)) × (length (now scores) ≡ length (now order)) ⌝ }
+    ensures { λ _. ⌜ (now (order .exit) ≡ part n (length (now (order .entry))) (now (wi .entry))) × (now (sizes .exit) ≡ part (2 * n) (length (now (order .entry))) (now (wi .entry)))
+        × (now (scores .exit) ≡ take (length (now (order .entry))) (now (wf .entry))) ⌝ }
+{
+    let m = order.len();
+    let end = n + m;
+    lists::copy_numbers(&wi[n..end], order);
+    let from = 2 * n;
+    let last = from + m;
+    lists::copy_numbers(&wi[from..last], sizes);
+    lists::copy(&wf[..m], scores);
+}
+
+// A round with `left` rounds left, on the rows at the front of `wi`. Its answer goes to `order`, `sizes` and `scores`, which have a place for each of
+// its items; a run that ends leaves them as they were.
+pub fn cluster_kmeans_top(
+    book: &[f64],
+    n: usize,
+    repeat: usize,
+    draws: &[u64],
+    read: usize,
+    left: usize,
+    order: &mut [usize],
+    sizes: &mut [usize],
+    scores: &mut [f64],
+    wi: &mut [usize],
+    wf: &mut [f64],
+) -> Top
+    requires { ⌜ Ready (now book) n repeat (now draws) read left (now order) (now sizes) (now scores) (now wi) (now wf) ⌝ }
+    ensures { λ r. ⌜ Rounded (roundOf (now (book .entry)) n repeat left (take (length (now (order .entry))) (now (wi .entry))) read (drop read (now (draws .entry)))) n left r
+        (now (order .entry)) (now (order .exit)) (now (sizes .entry)) (now (sizes .exit)) (now (scores .entry)) (now (scores .exit))
+        (now (wi .entry)) (now (wi .exit)) (now (wf .entry)) (now (wf .exit)) ⌝ }
+{
+    if left == 0 {
+        return Top::Stopped(Stop::Rounds);
+    }
+    let m = order.len();
+    match rounds::begin(book, n, m, repeat, draws, read, left, &mut *wi, &mut *wf) {
+        Begun::Stopped(s) => Top::Stopped(s),
+        Begun::Base(groups, weak, w, after) => {
+            if weak <= 2 {
+                keep(n, order, sizes, scores, &wi[..], &wf[..]);
+                return Top::Done(groups, after);
+            }
+            let below = 3 * n;
+            match cluster_kmeans_top(
+                book,
+                n,
+                repeat,
+                draws,
+                after,
+                left - 1,
+                &mut order[..w],
+                &mut sizes[..w],
+                &mut scores[..w],
+                &mut wi[below..],
+                &mut wf[n..],
+            ) {
+                Top::Stopped(t) => Top::Stopped(t),
+                Top::Done(inner, last) => {
+                    let g = settling::settle(
+                        book,
+                        n,
+                        left,
+                        groups,
+                        inner,
+                        w,
+                        order,
+                        sizes,
+                        scores,
+                        &wi[..],
+                        wf,
+                    );
+                    Top::Done(g, last)
+                }
+            }
+        }
+    }
+}
