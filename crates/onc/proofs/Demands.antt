@@ -1,0 +1,8 @@
+-- The three demands, of every call (specs/Demands.antt).
+use Rattle.onc.specs.Demands.{Demands}
+use Rattle.onc.proofs.Calls.{first}
+use Rattle.onc.proofs.Groupings.{second}
+use Rattle.onc.proofs.Reading.{third}
+
+pub demands : Demands
+demands = record { first = first; second = second; third = third }

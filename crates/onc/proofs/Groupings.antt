@@ -1,0 +1,126 @@
+-- Demand 2: what a call within the limits answers.
+use Prim.Native.Nat.{ℕ, _-_, _*_, _<_, _≤_}
+use mathlib.Core.Path.{_≡_, refl, sym, _∙_, ap, subst}
+use mathlib.Core.List.{List, [], _∷_}
+use mathlib.Core.Bool.{true}
+use mathlib.Core.Logic.{by-cases}
+use native.Mathlib.Omega.{arith}
+use native.Mathlib.Decide.{decLt}
+use lib.ListN.{length, List·getD-eq-default}
+use lib.Ieee.{Float, nan}
+use Rattle.lists.specs.Lists.{listed, numbers, cellAt, flat, grid}
+use Rattle.lists.proofs.Listed.{length-listed, getD-listed}
+use Rattle.lists.proofs.Grid.{grid-at}
+use Rattle.distance.specs.Distance.{through}
+use Rattle.draws.specs.declared.Stop.the-variants.{Rounds, Short, DrawOutOfRange, ClusteringFailed}
+use Rattle.partition.specs.Partition.{Partition, State, has, joined, groupAt}
+use Rattle.partition.specs.Orders.{sizesOf}
+use Rattle.rounds.specs.Round.{Run, done, ended, roundOf, needOf}
+use Rattle.partition.proofs.Cuts.{cut-joined, groups-few}
+use Rattle.rounds.proofs.Runs.{Whole, whole}
+use Rattle.rounds.proofs.Spends.{Spends, spends}
+use Rattle.onc.specs.Onc.{Lists, Outcome, runOf, finalOf, ran, groupOf}
+use Rattle.onc.specs.Demands.{Within, GroupingOf, EndsWith, Demand2}
+use Rattle.onc.proofs.Calls.{within-ran}
+
+-- the rows of the first round
+abbrev pub all : ℕ → List ℕ
+all n = listed (λ i. i) n
+
+pub all-length : (n : ℕ) → length (all n) ≡ n
+all-length n = length-listed (λ i. i) n
+
+-- the sizes: those of the groups, and 0 after the last
+size-at : (n : ℕ) (gs : List (List ℕ)) (g : ℕ) → g < n → numbers (sizesOf n gs) g ≡ length (groupAt gs g)
+size-at n gs g h = getD-listed (λ k. length (groupAt gs k)) n g 0 h
+
+no-size : (n : ℕ) (gs : List (List ℕ)) (g : ℕ) → length gs ≤ g → numbers (sizesOf n gs) g ≡ 0
+no-size n gs g h =
+    by-cases (decLt g n) (λ i. size-at n gs g i ∙ ap length (List·getD-eq-default gs [] h))
+    (λ i. let far : length (sizesOf n gs) ≤ g = omega (arith, length-listed (λ k. length (groupAt gs k)) n) in List·getD-eq-default (sizesOf n gs) 0 far)
+
+-- the ordered matrix
+ordered-at : (book : List Float) (n : ℕ) (order : List ℕ) (i j : ℕ) → i < n → j < n → cellAt (grid (through book n order) n) n i j ≡ cellAt book n (numbers order i) (numbers order j)
+unfolding through
+ordered-at book n order i j h l = grid-at (through book n order) n i j nan h l
+
+-- a run that ends in a partition leaves it in the outputs
+ran-grouping : (book : List Float) (n : ℕ) (s : State) (ms : List ℕ) (read : ℕ) (rest : List ℕ) (l : Lists) → Partition n (s .groups) → length (s .scores) ≡ n
+    → GroupingOf book n s (ran book n (done s ms read rest) l)
+ran-grouping book n s ms read rest l p long =
+    let few : length (s .groups) ≤ n = groups-few p in
+    record {
+      not-refused = refl;
+      partition = p;
+      groups = cut-joined (s .groups) n few;
+      numbered = λ g h. let inside : g < n = omega arith in omega (arith, size-at n (s .groups) g inside, p .some g h);
+      no-more = no-size n (s .groups);
+      order = refl;
+      scores = refl;
+      scores-long = long;
+      ordered-long = length-listed (flat (through book n (joined (s .groups))) n) (n * n);
+      matrix = ordered-at book n (joined (s .groups));
+    }
+
+-- what the run takes of its draws
+pub run-spends : (book : List Float) (n repeat : ℕ) (draws : List ℕ) → 2 ≤ n → n ≤ 256 → Spends book n repeat 32 (all n) 0 draws (runOf book n repeat draws)
+unfolding runOf
+run-spends book n repeat draws two few = spends book n repeat 32 (all n) 0 draws (omega (arith, all-length n)) (omega (arith, all-length n))
+
+-- and that it ends in a partition of all names, where it ends in groups
+pub run-whole : (book : List Float) (n repeat : ℕ) (draws : List ℕ) → 2 ≤ n → Whole n (runOf book n repeat draws)
+unfolding runOf
+run-whole book n repeat draws two =
+    subst (λ (m : ℕ). Whole m (roundOf book n repeat 32 (all n) 0 draws)) (all-length n) (whole book n repeat 32 (all n) 0 draws (omega (arith, all-length n)))
+
+module _ (book : List Float) (n repeat : ℕ) (draws : List ℕ) where
+  of-enough : 32 * needOf repeat n ≤ length draws → (r : Run) → Spends book n repeat 32 (all n) 0 draws r → EndsWith draws r
+  of-enough h (done s ms read rest) k = tt
+  of-enough h (ended Rounds ms) k = k .count
+  of-enough h (ended (Short p) ms) k =
+      let e : needOf repeat (length (all n)) ≡ needOf repeat n = ap (needOf repeat) (all-length n) in
+      let y : ⊥ = omega (arith, k .least, ap (λ (c : ℕ). 32 * c) e) in
+      y
+  of-enough h (ended (DrawOutOfRange p) ms) k =
+      let e : p - 0 ≡ p = omega arith in
+      (k .before, length (k .items), k .rounds, omega (arith, k .to, k .enough), subst (λ (i : ℕ). length (k .items) ≤ numbers draws i) e (k .bad))
+  of-enough h (ended ClusteringFailed ms) k = tt
+
+-- the number of a call, from how its run ends
+not-seven : (draws : List ℕ) (r : Run) → EndsWith draws r → has (0 ∷ 9 ∷ 8 ∷ 3 ∷ []) (finalOf r .refused .number) ≡ true
+unfolding has
+not-seven draws (done s ms read rest) h = refl
+not-seven draws (ended Rounds ms) h = refl
+not-seven draws (ended (Short k) ms) h = absurd h
+not-seven draws (ended (DrawOutOfRange p) ms) h = refl
+not-seven draws (ended ClusteringFailed ms) h = refl
+
+-- number 0 is a run that ended in a partition
+of-zero : (r : Run) → finalOf r .refused .number ≡ 0 → (s : State) × (ms : List ℕ) × (read : ℕ) × (rest : List ℕ) × (r ≡ done s ms read rest)
+of-zero (done s ms read rest) h = (s, ms, read, rest, refl)
+of-zero (ended Rounds ms) h = let y : ⊥ = omega arith in absurd y
+of-zero (ended (Short k) ms) h = let y : ⊥ = omega arith in absurd y
+of-zero (ended (DrawOutOfRange p) ms) h = let y : ⊥ = omega arith in absurd y
+of-zero (ended ClusteringFailed ms) h = let y : ⊥ = omega arith in absurd y
+
+pub second : (book : List Float) (n repeat : ℕ) (draws : List ℕ) (l : Lists) → Within book n repeat l → Demand2 book n repeat draws l
+second book n repeat draws l w =
+    record {
+      exact = exact;
+      enough = ends;
+      not-short = λ h. ap (has (0 ∷ 9 ∷ 8 ∷ 3 ∷ [])) number ∙ not-seven draws (runOf book n repeat draws) (ends h);
+      grouped = λ h. of-zero (runOf book n repeat draws) (sym number ∙ h);
+      grouping = λ s ms read rest e.
+          let h : Whole n (done s ms read rest) = subst (Whole n) e (run-whole book n repeat draws (w .two)) in
+          let o : groupOf book n n repeat draws l ≡ ran book n (done s ms read rest) l = exact ∙ ap (λ (r : Run). ran book n r l) e in
+          subst (GroupingOf book n s) (sym o) (ran-grouping book n s ms read rest l (h .0) (h .1));
+    }
+  where
+    exact : groupOf book n n repeat draws l ≡ ran book n (runOf book n repeat draws) l
+    exact = within-ran book n repeat draws l w
+
+    number : groupOf book n n repeat draws l .answer .refused .number ≡ finalOf (runOf book n repeat draws) .refused .number
+    number = ap (λ (o : Outcome). o .answer .refused .number) exact
+
+    ends : 32 * needOf repeat n ≤ length draws → EndsWith draws (runOf book n repeat draws)
+    ends h = of-enough book n repeat draws h (runOf book n repeat draws) (run-spends book n repeat draws (w .two) (w .few))

@@ -1,0 +1,7 @@
+-- Laws of a call; Demands.antt has the three demands.
+pub mod Calls
+pub mod Demands
+pub mod Groupings
+pub mod Reading
+pub mod Running
+pub mod Shapes

@@ -1,0 +1,156 @@
+-- Demand 3: what a call reads of its draws.
+use Prim.Native.Nat.{ℕ, _+_, _*_, _<_, _≤_}
+use mathlib.Core.Path.{_≡_, refl, sym, _∙_, ap, subst}
+use mathlib.Core.Bool.{true, false}
+use mathlib.Core.List.{List, [], _∷_, _++_}
+use native.Mathlib.Omega.{arith}
+use borrow.Author.Tests.{eq-eqb}
+use lib.Dec.{eqb}
+use lib.ListN.{length, take, drop}
+use lib.Ieee.{Float}
+use Rattle.lists.proofs.Tests.{impossible}
+use Rattle.refusals.specs.Table.{Refusal}
+use Rattle.distance.specs.Distance.{distAt}
+use Rattle.draws.specs.Draws.{Drawn, drawn, refused}
+use Rattle.draws.specs.declared.Stop.the-variants.{Rounds, Short, DrawOutOfRange, ClusteringFailed}
+use Rattle.draws.proofs.Taken.{Ends}
+use Rattle.partition.specs.Partition.{State}
+use Rattle.candidates.specs.Candidates.{Best, nothing, found, bestOf}
+use Rattle.rounds.specs.Round.{Run, done, ended, needOf, totalOf}
+use Rattle.candidates.proofs.Laws.{Found, best-took}
+use Rattle.rounds.proofs.Spends.{ReachedFrom, start, further, Spends, searchOf as searchFrom, draws-none, draws-more, draws-one}
+use Rattle.onc.specs.Onc.{Lists, Outcome, shape, runOf, finalOf, ran, groupOf}
+use Rattle.onc.specs.Demands.{Cause, no-repeat, not-square, few-rows, many-rows, many-repeats, cell-count, list-length, outputs, roundsOf, AsLong, Counted, Takes, searchOf, Reached, first, next, Spent, Demand3}
+use Rattle.onc.proofs.Shapes.{shape-cause, shape-within, shape-same}
+use Rattle.onc.proofs.Calls.{call-ran, by-call}
+use Rattle.onc.proofs.Groupings.{all, all-length, run-spends}
+
+-- the draws of rounds one after the other
+draws-append : (repeat : ℕ) (before : List ℕ) (m : ℕ) → totalOf repeat (before ++ (m ∷ [])) ≡ totalOf repeat before + needOf repeat m
+draws-append repeat [] m = omega (arith, draws-one repeat m, draws-none repeat)
+draws-append repeat (k ∷ before) m = omega (arith, draws-more repeat k (before ++ (m ∷ [])), draws-append repeat before m, draws-more repeat k before)
+
+-- no refusal before the run has the number 0 or 7
+not-seven : {book : List Float} {rows cols repeat : ℕ} {l : Lists} {k : ℕ} → Cause book rows cols repeat l k → k ≡ 7 → ⊥
+not-seven (no-repeat h) e = omega arith
+not-seven (not-square s h) e = omega arith
+not-seven (few-rows s q h) e = omega arith
+not-seven (many-rows s h) e = omega arith
+not-seven (many-repeats s h) e = omega arith
+not-seven (cell-count s h) e = omega arith
+not-seven (list-length s q h) e = omega arith
+
+not-zero : (k : ℕ) → eqb k 0 ≡ false → k ≡ 0 → ⊥
+not-zero k h e = impossible (sym h ∙ eq-eqb k 0 e)
+
+-- what a run takes of its draws, from its first round on
+module _ (book : List Float) (rows repeat : ℕ) (draws : List ℕ) where
+  -- the search of the last round, with no draw read before the first
+  search-same : (before items : List ℕ) (D : Drawn Best) → searchFrom book rows repeat 0 draws before items ≡ D → searchOf book rows repeat draws before items ≡ D
+  search-same before items D h =
+      let z : totalOf repeat before ≡ 0 + totalOf repeat before = omega arith in
+      ap (λ (i : ℕ). bestOf (distAt book rows items) (length items) repeat i (drop (totalOf repeat before) draws)) z ∙ h
+
+  -- a round that is reached from the first
+  reached-same : {before items : List ℕ} → ReachedFrom book rows repeat (all rows) 0 draws before items → Reached book rows repeat draws before items
+  reached-same start = first
+  reached-same (further before items k rest l q w) = next before items k rest (reached-same l) (search-same before items (drawn (found k) rest) q) w
+
+  of-spends : (r : Run) → Spends book rows repeat 32 (all rows) 0 draws r → Spent book rows repeat draws r
+  of-spends (done s ms read rest) k =
+      let count : read ≡ totalOf repeat ms = omega (arith, k .place) in (
+        count,
+        k .remain ∙ ap (λ (i : ℕ). drop i draws) (sym count),
+        k .before,
+        k .items,
+        k .best,
+        reached-same (k .reached),
+        k .rounds,
+        search-same (k .before) (k .items) (drawn (found (k .best)) rest) (k .cause),
+        k .kept,
+      )
+  of-spends (ended Rounds ms) k = (k .count, k .enough, k .items, reached-same (k .reached))
+  of-spends (ended (Short p) ms) k =
+      let count : p ≡ totalOf repeat ms = omega (arith, k .place) in
+      (count, omega (arith, count, k .enough), k .items, reached-same (k .reached), omega (arith, count, k .short))
+  of-spends (ended (DrawOutOfRange p) ms) k =
+      let e : totalOf repeat ms ≡ totalOf repeat (k .before) + needOf repeat (length (k .items)) =
+      ap (totalOf repeat) (k .rounds) ∙ draws-append repeat (k .before) (length (k .items)) in (
+        k .before,
+        k .items,
+        reached-same (k .reached),
+        k .rounds,
+        k .enough,
+        omega (arith, k .from),
+        omega (arith, k .to, e),
+        search-same (k .before) (k .items) (refused p) (k .cause),
+      )
+  of-spends (ended ClusteringFailed ms) k =
+      (k .before, k .items, k .rest, reached-same (k .reached), k .rounds, k .enough, search-same (k .before) (k .items) (drawn nothing (k .rest)) (k .cause))
+
+  -- the place of 7
+  of-short : (r : Run) → Spends book rows repeat 32 (all rows) 0 draws r → finalOf r .refused .number ≡ 7 → finalOf r .refused .place ≡ totalOf repeat (roundsOf r)
+  of-short (done s ms read rest) k h = let y : ⊥ = omega arith in absurd y
+  of-short (ended Rounds ms) k h = let y : ⊥ = omega arith in absurd y
+  of-short (ended (Short p) ms) k h = omega (arith, k .place)
+  of-short (ended (DrawOutOfRange p) ms) k h = let y : ⊥ = omega arith in absurd y
+  of-short (ended ClusteringFailed ms) k h = let y : ⊥ = omega arith in absurd y
+
+  module _ (cols : ℕ) (l : Lists) (passed : eqb (shape book rows cols repeat l .number) 0 ≡ true) where
+    -- draws that begin alike, and other lists of the same lengths
+    of-same : (s : State) (ms : List ℕ) (read : ℕ) (rest draws′ rest′ : List ℕ) (l′ : Lists) → AsLong l l′
+        → runOf book rows repeat draws ≡ done s ms read rest → runOf book rows repeat draws′ ≡ done s ms read rest′
+        → outputs (groupOf book rows cols repeat draws′ l′) ≡ outputs (groupOf book rows cols repeat draws l)
+    of-same s ms read rest draws′ rest′ l′ long e e′ =
+        let also : eqb (shape book rows cols repeat l′ .number) 0 ≡ true = ap (λ (q : Refusal). eqb (q .number) 0) (shape-same book rows cols repeat l l′ long) ∙ passed in
+        let o : groupOf book rows cols repeat draws l ≡ ran book rows (done s ms read rest) l =
+        call-ran book rows cols repeat draws l passed ∙ ap (λ (r : Run). ran book rows r l) e in
+        let o′ : groupOf book rows cols repeat draws′ l′ ≡ ran book rows (done s ms read rest′) l′ =
+        call-ran book rows cols repeat draws′ l′ also ∙ ap (λ (r : Run). ran book rows r l′) e′ in
+        ap outputs o′ ∙ sym (ap outputs o)
+
+    of-grouped : (r : Run) → runOf book rows repeat draws ≡ r → Spends book rows repeat 32 (all rows) 0 draws r → finalOf r .refused .number ≡ 0
+        → Counted book rows cols repeat draws l (finalOf r .read)
+    unfolding runOf
+    of-grouped (done s ms read rest) e k h =
+        let count : read ≡ totalOf repeat ms = omega (arith, k .place) in
+        let need : needOf repeat (length (all rows)) ≡ needOf repeat rows = ap (needOf repeat) (all-length rows) in
+        record {
+          sum = count ∙ ap (λ (r : Run). totalOf repeat (roundsOf r)) (sym e);
+          most = omega (arith, count, k .most, ap (λ (c : ℕ). 32 * c) need);
+          there = omega (arith, count, k .enough);
+          same = λ draws′ l′ long t.
+              let t′ : take (totalOf repeat ms) draws′ ≡ take (totalOf repeat ms) draws = subst (λ (c : ℕ). take c draws′ ≡ take c draws) count t in
+              of-same s ms read rest draws′ (drop (totalOf repeat ms) draws′) l′ long e (k .same draws′ t′);
+        }
+    of-grouped (ended Rounds ms) e k h = let y : ⊥ = omega arith in absurd y
+    of-grouped (ended (Short p) ms) e k h = let y : ⊥ = omega arith in absurd y
+    of-grouped (ended (DrawOutOfRange p) ms) e k h = let y : ⊥ = omega arith in absurd y
+    of-grouped (ended ClusteringFailed ms) e k h = let y : ⊥ = omega arith in absurd y
+
+-- what one round takes
+of-best : (x : ℕ → ℕ → Float) (m count read : ℕ) (ds : List ℕ) (D : Drawn Best)
+    → Ends (λ b rest. Found x m b × (rest ≡ drop count ds) × (count ≤ length ds)) (λ p. (read ≤ p) × (p < read + count)) D → Takes count read ds D
+of-best x m count read ds (drawn b rest) h = (h .1, h .2)
+of-best x m count read ds (refused p) h = h
+
+pub third : (book : List Float) (rows cols repeat : ℕ) (draws : List ℕ) (l : Lists) → Demand3 book rows cols repeat draws l
+third book rows cols repeat draws l =
+    record {
+      grouped = by-call book rows cols repeat draws l (λ (o : Outcome). o .answer .refused .number ≡ 0 → Counted book rows cols repeat draws l (o .answer .read))
+          (λ e. let w = shape-within book rows cols repeat l e .1 in of-grouped book rows repeat draws cols l e r refl (took (w .two) (w .few)))
+          (λ e h. absurd (not-zero (shape book rows cols repeat l .number) e h));
+      short = by-call book rows cols repeat draws l (λ (o : Outcome). o .answer .refused .number ≡ 7 → o .answer .refused .place ≡ totalOf repeat (roundsOf r))
+          (λ e. let w = shape-within book rows cols repeat l e .1 in of-short book rows repeat draws r (took (w .two) (w .few)))
+          (λ e h. absurd (not-seven (shape-cause book rows cols repeat l e) h));
+      spent = λ two few. of-spends book rows repeat draws r (took two few);
+      each = λ items read ds two.
+          of-best (distAt book rows items) (length items) (needOf repeat (length items)) read ds (bestOf (distAt book rows items) (length items) repeat read ds)
+          (best-took (distAt book rows items) (length items) repeat two read ds);
+    }
+  where
+    r : Run
+    r = runOf book rows repeat draws
+
+    took : 2 ≤ rows → rows ≤ 256 → Spends book rows repeat 32 (all rows) 0 draws r
+    took = run-spends book rows repeat draws

@@ -1,0 +1,203 @@
+-- The three demands, about `groupOf` (Onc.antt): what `get_onc_clusters_with_draws` promises to answer and to leave. Definitions only;
+-- `demands` in proofs/Demands.antt proves them of every call.
+use Prim.Native.Nat.{ℕ, _+_, _*_, _<_, _≤_}
+use mathlib.Core.Path.{_≡_}
+use mathlib.Core.Bool.{true, false}
+use mathlib.Core.List.{List, [], _∷_, _++_}
+use lib.ListN.{length, take, drop}
+use lib.Ieee.{Float}
+use Rattle.lists.specs.Lists.{listed, numbers, cellAt}
+use Rattle.refusals.specs.Table.{workDoubles, workNumbers, wiped, wipedNumbers}
+use Rattle.distance.specs.Distance.{distAt}
+use Rattle.draws.specs.Draws.{Drawn, drawn, refused}
+use Rattle.draws.specs.declared.Stop.the-variants.{Rounds, Short, DrawOutOfRange, ClusteringFailed}
+use Rattle.partition.specs.Partition.{Partition, State, has, joined}
+use Rattle.partition.specs.Orders.{cut}
+use Rattle.candidates.specs.Candidates.{Candidate, Best, nothing, found, bestOf}
+use Rattle.quality.specs.Quality.{qualitiesOf, weakCount}
+use Rattle.base.specs.Base.{baseOf}
+use Rattle.improve.specs.Improve.{weakItems}
+use Rattle.rounds.specs.Round.{Run, done, ended, needOf, rowsOf, totalOf}
+use Rattle.onc.specs.Onc.{Answer, Lists, Outcome, listsFit, refusing, runOf, ran, groupOf}
+
+-- what a call returns and leaves in its outputs
+pub record Outputs : Type 0 where
+  pub answer : Answer
+  pub order : List ℕ
+  pub sizes : List ℕ
+  pub scores : List Float
+  pub ordered : List Float
+
+abbrev pub outputs : Outcome → Outputs
+outputs o = record { answer = o .answer; order = o .lists .order; sizes = o .lists .sizes; scores = o .lists .scores; ordered = o .lists .ordered }
+
+-- the outputs that were lent, with the answer of the call
+abbrev pub untouched : Outcome → Lists → Outputs
+untouched o l = record { answer = o .answer; order = l .order; sizes = l .sizes; scores = l .scores; ordered = l .ordered }
+
+-- both working lists with their front parts zero, and the rest kept
+pub record Wiped (n : ℕ) (o : Outcome) (l : Lists) : Type 0 where
+  pub floats : o .lists .floats ≡ wiped n (l .floats)
+  pub numbers : o .lists .numbers ≡ wipedNumbers n (l .numbers)
+
+-- a book within the limits, and lists of the lengths that the call asks for
+pub record Within (book : List Float) (n repeat : ℕ) (l : Lists) : Type 0 where
+  pub two : 2 ≤ n
+  pub few : n ≤ 256
+  pub some : 1 ≤ repeat
+  pub times : repeat ≤ 64
+  pub square : length book ≡ n * n
+  pub order-long : length (l .order) ≡ n
+  pub sizes-long : length (l .sizes) ≡ n
+  pub scores-long : length (l .scores) ≡ n
+  pub ordered-long : length (l .ordered) ≡ n * n
+  pub floats-long : workDoubles n ≤ length (l .floats)
+  pub numbers-long : workNumbers n ≤ length (l .numbers)
+
+-- rows 1 and 2 of the table do not apply
+pub record Shaped (rows cols repeat : ℕ) : Type 0 where
+  pub some : 1 ≤ repeat
+  pub same : rows ≡ cols
+  pub two : 2 ≤ rows
+
+-- nor does row 4
+pub record Limited (rows cols repeat : ℕ) : Type 0 where
+  pub shaped : Shaped rows cols repeat
+  pub few : rows ≤ 256
+  pub times : repeat ≤ 64
+
+-- what each refusal before the run is for; no row above it in the table applies
+pub data Cause (book : List Float) (rows cols repeat : ℕ) (l : Lists) : ℕ → Type 0 where
+  no-repeat : repeat ≡ 0 → Cause book rows cols repeat l 1
+  not-square : 1 ≤ repeat → (rows ≡ cols → ⊥) → Cause book rows cols repeat l 2
+  few-rows : 1 ≤ repeat → rows ≡ cols → rows < 2 → Cause book rows cols repeat l 2
+  many-rows : Shaped rows cols repeat → 256 < rows → Cause book rows cols repeat l 4
+  many-repeats : Shaped rows cols repeat → 64 < repeat → Cause book rows cols repeat l 4
+  cell-count : Limited rows cols repeat → (length book ≡ rows * rows → ⊥) → Cause book rows cols repeat l 5
+  list-length : Limited rows cols repeat → length book ≡ rows * rows
+      → listsFit rows (length (l .order)) (length (l .sizes)) (length (l .scores)) (length (l .ordered)) (length (l .floats)) (length (l .numbers)) ≡ false
+      → Cause book rows cols repeat l 6
+
+-- Demand 1. A call ends in one of three ways: a grouping; a refusal before the run, for its cause, which keeps every list; or a refusal that the run
+-- meets, which keeps the outputs. A refusal tells no groups and no draws read, and before the run the place 0. A run starts within the limits alone, and
+-- once it has started the working lists are wiped, however it ends.
+pub data Demand1 (book : List Float) (rows cols repeat : ℕ) (o : Outcome) (l : Lists) : Type 0 where
+  grouping : rows ≡ cols → Within book rows repeat l → o .answer .refused .number ≡ 0 → Wiped rows o l → Demand1 book rows cols repeat o l
+  not-started : Cause book rows cols repeat l (o .answer .refused .number) → o .answer ≡ refusing (record { number = o .answer .refused .number; place = 0 }) → o .lists ≡ l
+      → Demand1 book rows cols repeat o l
+  not-ended : rows ≡ cols → Within book rows repeat l → has (9 ∷ 7 ∷ 8 ∷ 3 ∷ []) (o .answer .refused .number) ≡ true → o .answer ≡ refusing (o .answer .refused)
+      → outputs o ≡ untouched o l → Wiped rows o l → Demand1 book rows cols repeat o l
+
+-- the answer and the outputs are those of the definition's partition s: no group is empty, the groups are numbered without a gap, each name is in exactly
+-- one, and the ordered matrix is the book under the groups one after the other
+pub record GroupingOf (book : List Float) (n : ℕ) (s : State) (o : Outcome) : Type 0 where
+  pub not-refused : o .answer .refused .number ≡ 0
+  pub partition : Partition n (s .groups)
+  pub groups : cut (o .answer .groups) (o .lists .sizes) (o .lists .order) ≡ s .groups
+  pub numbered : (g : ℕ) → g < o .answer .groups → 0 < numbers (o .lists .sizes) g
+  pub no-more : (g : ℕ) → o .answer .groups ≤ g → numbers (o .lists .sizes) g ≡ 0
+  pub order : o .lists .order ≡ joined (s .groups)
+  pub scores : o .lists .scores ≡ s .scores
+  pub scores-long : length (s .scores) ≡ n
+  pub ordered-long : length (o .lists .ordered) ≡ n * n
+  pub matrix : (i j : ℕ) → i < n → j < n → cellAt (o .lists .ordered) n i j ≡ cellAt book n (numbers (o .lists .order) i) (numbers (o .lists .order) j)
+
+-- how a run with enough draws ends: in a grouping; or by 9, after 32 rounds; by 8, at the place of a draw that is not below the number of items of the
+-- round that reads it (an index must be, and a share has the higher limit 2 ^ 53); or by 3. Not by 7.
+abbrev pub EndsWith : List ℕ → Run → Type 0
+EndsWith draws (done s ms read rest) = Unit
+EndsWith draws (ended Rounds ms) = length ms ≡ 32
+EndsWith draws (ended (Short k) ms) = ⊥
+EndsWith draws (ended (DrawOutOfRange p) ms) = (before : List ℕ) × (m : ℕ) × (ms ≡ before ++ (m ∷ [])) × (p < length draws) × (m ≤ numbers draws p)
+EndsWith draws (ended ClusteringFailed ms) = Unit
+
+-- Demand 2. Within the limits a call answers and leaves exactly what the run of the definition gives. A list of 32 times the first round's count is
+-- enough draws, and then 7 is not answered. Where the run ends in a partition, so does the call, and nowhere else.
+pub record Demand2 (book : List Float) (n repeat : ℕ) (draws : List ℕ) (l : Lists) : Type 0 where
+  pub exact : groupOf book n n repeat draws l ≡ ran book n (runOf book n repeat draws) l
+  pub enough : 32 * needOf repeat n ≤ length draws → EndsWith draws (runOf book n repeat draws)
+  pub not-short : 32 * needOf repeat n ≤ length draws → has (0 ∷ 9 ∷ 8 ∷ 3 ∷ []) (groupOf book n n repeat draws l .answer .refused .number) ≡ true
+  pub grouping : (s : State) (ms : List ℕ) (read : ℕ) (rest : List ℕ) → runOf book n repeat draws ≡ done s ms read rest
+      → GroupingOf book n s (groupOf book n n repeat draws l)
+  pub grouped : groupOf book n n repeat draws l .answer .refused .number ≡ 0
+      → (s : State) × (ms : List ℕ) × (read : ℕ) × (rest : List ℕ) × (runOf book n repeat draws ≡ done s ms read rest)
+
+-- the number of items of each round of a run that started
+abbrev pub roundsOf : Run → List ℕ
+roundsOf (done s ms read rest) = ms
+roundsOf (ended q ms) = ms
+
+-- lists as long as others, whatever they hold
+pub record AsLong (l l′ : Lists) : Type 0 where
+  pub order : length (l′ .order) ≡ length (l .order)
+  pub sizes : length (l′ .sizes) ≡ length (l .sizes)
+  pub scores : length (l′ .scores) ≡ length (l .scores)
+  pub ordered : length (l′ .ordered) ≡ length (l .ordered)
+  pub floats : length (l′ .floats) ≡ length (l .floats)
+  pub numbers : length (l′ .numbers) ≡ length (l .numbers)
+
+-- of a call that ends in a grouping and reports `count` draws: they are the sum over the rounds, a losing re-clustering included, at most 32 times the
+-- first round's; and every other list of draws that begins with those gives the same answer and the same outputs
+pub record Counted (book : List Float) (rows cols repeat : ℕ) (draws : List ℕ) (l : Lists) (count : ℕ) : Type 0 where
+  pub sum : count ≡ totalOf repeat (roundsOf (runOf book rows repeat draws))
+  pub most : count ≤ 32 * needOf repeat rows
+  pub there : count ≤ length draws
+  pub same : (draws′ : List ℕ) (l′ : Lists) → AsLong l l′ → take count draws′ ≡ take count draws
+      → outputs (groupOf book rows cols repeat draws′ l′) ≡ outputs (groupOf book rows cols repeat draws l)
+
+-- what a round that starts with the draws ds, `read` draws having been read, takes of them: exactly `count`, and the others remain; or it meets one of
+-- those that is out of range
+abbrev pub Takes : ℕ → ℕ → List ℕ → Drawn Best → Type 0
+Takes count read ds (drawn b rest) = (rest ≡ drop count ds) × (count ≤ length ds)
+Takes count read ds (refused p) = (read ≤ p) × (p < read + count)
+
+-- the search of a round over these items (rows of the book), after rounds that took exactly the draws in front of its own
+abbrev pub searchOf : List Float → ℕ → ℕ → List ℕ → (before items : List ℕ) → Drawn Best
+searchOf book n repeat draws before items = bestOf (distAt book n items) (length items) repeat (totalOf repeat before) (drop (totalOf repeat before) draws)
+
+-- a round over `items` (rows of the book) is reached after rounds of `before` items, which took exactly their counts: the first round is over all names,
+-- and each later one over the items of the weak groups of the base before it, of which there are more than two
+pub data Reached (book : List Float) (n repeat : ℕ) (draws : List ℕ) : List ℕ → List ℕ → Type 0 where
+  first : Reached book n repeat draws [] (listed (λ i. i) n)
+  next : (before items : List ℕ) (c : Candidate) (rest : List ℕ) → Reached book n repeat draws before items
+      → searchOf book n repeat draws before items ≡ drawn (found c) rest
+      → 2 < weakCount (qualitiesOf (c .scores) (baseOf (length items) c .groups))
+      → Reached book n repeat draws (before ++ (length items ∷ [])) (rowsOf items (weakItems (baseOf (length items) c)))
+
+-- How a run of n names spends its draws, however it ends; the draws of each round that started were there. A grouping comes after a round that is reached
+-- and finds a candidate with two weak groups or fewer. 9 and 7 are met by a round that is reached and does not start: 9 after 32 rounds, 7 where fewer
+-- draws remain than the round needs, and 7 gives the sum over the rounds that started. 8 and 3 are met in the last round that started, which is reached:
+-- its search meets the draw at place p, one of its own, or finds no candidate.
+abbrev pub Spent : List Float → ℕ → ℕ → List ℕ → Run → Type 0
+Spent book n repeat draws (done s ms read rest) =
+    (read ≡ totalOf repeat ms) × (rest ≡ drop read draws)
+    × (before : List ℕ) × (items : List ℕ) × (c : Candidate) × Reached book n repeat draws before items × (ms ≡ before ++ (length items ∷ []))
+    × (searchOf book n repeat draws before items ≡ drawn (found c) rest) × (weakCount (qualitiesOf (c .scores) (baseOf (length items) c .groups)) ≤ 2)
+Spent book n repeat draws (ended Rounds ms) =
+    (length ms ≡ 32) × (totalOf repeat ms ≤ length draws) × (items : List ℕ) × Reached book n repeat draws ms items
+Spent book n repeat draws (ended (Short k) ms) =
+    (k ≡ totalOf repeat ms) × (k ≤ length draws) × (items : List ℕ) × Reached book n repeat draws ms items × (length draws < k + needOf repeat (length items))
+Spent book n repeat draws (ended (DrawOutOfRange p) ms) =
+    (before : List ℕ) × (items : List ℕ) × Reached book n repeat draws before items × (ms ≡ before ++ (length items ∷ [])) × (totalOf repeat ms ≤ length draws)
+    × (totalOf repeat before ≤ p) × (p < totalOf repeat before + needOf repeat (length items)) × (searchOf book n repeat draws before items ≡ refused p)
+Spent book n repeat draws (ended ClusteringFailed ms) =
+    (before : List ℕ) × (items : List ℕ) × (rest : List ℕ) × Reached book n repeat draws before items × (ms ≡ before ++ (length items ∷ []))
+    × (totalOf repeat ms ≤ length draws) × (searchOf book n repeat draws before items ≡ drawn nothing rest)
+
+-- Demand 3: how many draws a call reads, and that no others matter.
+pub record Demand3 (book : List Float) (rows cols repeat : ℕ) (draws : List ℕ) (l : Lists) : Type 0 where
+  pub grouped : groupOf book rows cols repeat draws l .answer .refused .number ≡ 0
+      → Counted book rows cols repeat draws l (groupOf book rows cols repeat draws l .answer .read)
+  pub short : groupOf book rows cols repeat draws l .answer .refused .number ≡ 7
+      → groupOf book rows cols repeat draws l .answer .refused .place ≡ totalOf repeat (roundsOf (runOf book rows repeat draws))
+  pub spent : 2 ≤ rows → rows ≤ 256 → Spent book rows repeat draws (runOf book rows repeat draws)
+  -- beside that, of any round, on any items and draws
+  pub each : (items : List ℕ) (read : ℕ) (ds : List ℕ) → 2 ≤ length items
+      → Takes (needOf repeat (length items)) read ds (bestOf (distAt book rows items) (length items) repeat read ds)
+
+-- the three demands, of every call
+pub record Demands : Type 0 where
+  pub first : (book : List Float) (rows cols repeat : ℕ) (draws : List ℕ) (l : Lists)
+      → Demand1 book rows cols repeat (groupOf book rows cols repeat draws l) l
+  pub second : (book : List Float) (n repeat : ℕ) (draws : List ℕ) (l : Lists) → Within book n repeat l → Demand2 book n repeat draws l
+  pub third : (book : List Float) (rows cols repeat : ℕ) (draws : List ℕ) (l : Lists) → Demand3 book rows cols repeat draws l

@@ -1,0 +1,138 @@
+-- The grouping of a book: what a call answers, and what it leaves in every list that it was lent. Definitions only.
+use Prim.Native.Nat.{ℕ, _*_}
+use mathlib.Core.Bool.{Bool, cond, _&&_}
+use mathlib.Core.List.{List}
+use lib.Dec.{eqb, ltb, leb}
+use lib.ListN.{length}
+use lib.Ieee.{Float}
+use Rattle.lists.specs.Lists.{listed, grid}
+use Rattle.refusals.specs.Table.{Refusal, none, refused, when, unless, refusal, workDoubles, wiped, workNumbers, wipedNumbers}
+use Rattle.distance.specs.Distance.{through}
+use Rattle.draws.specs.Stops.{stopNumber, stopPlace}
+use Rattle.partition.specs.Partition.{joined}
+use Rattle.partition.specs.Orders.{sizesOf}
+use Rattle.rounds.specs.Round.{Run, done, ended, roundOf}
+use Rattle.onc.specs.declared.Onc.{Onc}
+use Rattle.onc.specs.declared.Onc.the-variants.{Grouped, InvalidRepeat, InvalidCorrelationMatrix, TooLarge, CellCount, ListLength, Stopped}
+
+-- the table's number for each answer, 0 for a grouping; its place, 0 where the table names none; the groups and the draws read, 0 for a refusal
+abbrev pub numberOf : Onc → ℕ
+numberOf (Grouped groups draws) = 0
+numberOf InvalidRepeat = 1
+numberOf InvalidCorrelationMatrix = 2
+numberOf TooLarge = 4
+numberOf CellCount = 5
+numberOf ListLength = 6
+numberOf (Stopped s) = stopNumber s
+
+abbrev pub placeOf : Onc → ℕ
+placeOf (Grouped groups draws) = 0
+placeOf InvalidRepeat = 0
+placeOf InvalidCorrelationMatrix = 0
+placeOf TooLarge = 0
+placeOf CellCount = 0
+placeOf ListLength = 0
+placeOf (Stopped s) = stopPlace s
+
+abbrev pub groupsOf : Onc → ℕ
+groupsOf (Grouped groups draws) = groups
+groupsOf InvalidRepeat = 0
+groupsOf InvalidCorrelationMatrix = 0
+groupsOf TooLarge = 0
+groupsOf CellCount = 0
+groupsOf ListLength = 0
+groupsOf (Stopped s) = 0
+
+abbrev pub readOf : Onc → ℕ
+readOf (Grouped groups draws) = draws
+readOf InvalidRepeat = 0
+readOf InvalidCorrelationMatrix = 0
+readOf TooLarge = 0
+readOf CellCount = 0
+readOf ListLength = 0
+readOf (Stopped s) = 0
+
+-- an answer, as the table gives it
+pub record Answer : Type 0 where
+  pub refused : Refusal
+  pub groups : ℕ
+  pub read : ℕ
+
+abbrev pub answerOf : Onc → Answer
+answerOf a = record { refused = record { number = numberOf a; place = placeOf a }; groups = groupsOf a; read = readOf a }
+
+abbrev pub refusing : Refusal → Answer
+refusing q = record { refused = q; groups = 0; read = 0 }
+
+-- the lists that a call is lent: four outputs, two to work in
+pub record Lists : Type 0 where
+  pub order : List ℕ
+  pub sizes : List ℕ
+  pub scores : List Float
+  pub ordered : List Float
+  pub floats : List Float
+  pub numbers : List ℕ
+
+pub record Outcome : Type 0 where
+  pub answer : Answer
+  pub lists : Lists
+
+-- outputs of exactly the lengths for n names, and lists to work in of at least theirs
+abbrev pub listsFit : ℕ → (order sizes scores ordered floats numbers : ℕ) → Bool
+listsFit n order sizes scores ordered floats numbers =
+    eqb order n && (eqb sizes n && (eqb scores n && (eqb ordered (n * n) && (leb (workDoubles n) floats && leb (workNumbers n) numbers))))
+
+-- the rows of the table that keep every list: 1, 2, 4, 5, 6
+unfoldable pub shapeOf : (repeat rows cols cells : ℕ) → Bool → Refusal
+shapeOf repeat rows cols cells fits =
+    when (eqb repeat 0) (refused 1)
+    (unless (eqb rows cols) (refused 2)
+    (when (ltb rows 2) (refused 2)
+    (when (ltb 64 repeat) (refused 4)
+    (refusal cells rows rows fits 0 0))))
+
+abbrev pub shape : (book : List Float) (rows cols repeat : ℕ) → Lists → Refusal
+shape book rows cols repeat l =
+    shapeOf repeat rows cols (length book)
+    (listsFit rows (length (l .order)) (length (l .sizes)) (length (l .scores)) (length (l .ordered)) (length (l .floats)) (length (l .numbers)))
+
+-- the run on a book of n names: at first 32 rounds are left, the rows are 0, 1, .., n - 1, and no draw has been read
+unfoldable pub runOf : List Float → (n repeat : ℕ) → List ℕ → Run
+runOf book n repeat draws = roundOf book n repeat 32 (listed (λ i. i) n) 0 draws
+
+-- what a run answers
+abbrev pub finalOf : Run → Answer
+finalOf (done s ms read rest) = record { refused = none; groups = length (s .groups); read = read }
+finalOf (ended q ms) = refusing (record { number = stopNumber q; place = stopPlace q })
+
+-- what it leaves: the groups one after the other, their sizes, the scores by name and the book in the order of the groups, where it ends in a
+-- grouping; the outputs as they were, where it does not; and the front parts of both working lists zero, the rest of them kept
+abbrev pub leftBy : List Float → ℕ → Run → Lists → Lists
+leftBy book n (done s ms read rest) l =
+    record {
+      order = joined (s .groups);
+      sizes = sizesOf n (s .groups);
+      scores = s .scores;
+      ordered = grid (through book n (joined (s .groups))) n;
+      floats = wiped n (l .floats);
+      numbers = wipedNumbers n (l .numbers);
+    }
+leftBy book n (ended q ms) l =
+    record {
+      order = l .order;
+      sizes = l .sizes;
+      scores = l .scores;
+      ordered = l .ordered;
+      floats = wiped n (l .floats);
+      numbers = wipedNumbers n (l .numbers);
+    }
+
+abbrev pub ran : List Float → ℕ → Run → Lists → Outcome
+ran book n r l = record { answer = finalOf r; lists = leftBy book n r l }
+
+-- refused by the first row that keeps every list, or else what the run gives
+abbrev pub decided : Refusal → List Float → ℕ → Run → Lists → Outcome
+decided q book n r l = cond (eqb (q .number) 0) (ran book n r l) (record { answer = refusing q; lists = l })
+
+unfoldable pub groupOf : (book : List Float) (rows cols repeat : ℕ) (draws : List ℕ) → Lists → Outcome
+groupOf book rows cols repeat draws l = decided (shape book rows cols repeat l) book rows (runOf book rows repeat draws) l
