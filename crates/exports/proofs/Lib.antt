@@ -1,2 +1,3 @@
--- Laws of the answers in a list of three.
+-- Laws of the answers in a list of three, and of four.
 pub mod Laws
+pub mod Grouping
