@@ -87,7 +87,8 @@ pub fn block_correlations(r: &mut Random, n: usize, blocks: usize, noise: f64) -
     cells
 }
 
-fn random_correlations(r: &mut Random, n: usize) -> Vec<f64> {
+/// Correlations drawn from -1..1: 1 on the diagonal, each cell its mirror.
+pub fn random_correlations(r: &mut Random, n: usize) -> Vec<f64> {
     let mut cells = vec![1.0; n * n];
     for i in 0..n {
         for j in 0..i {

@@ -2,4 +2,5 @@
 pub mod books;
 pub mod draws;
 pub mod leaf;
+pub mod lent;
 pub mod random;

@@ -3,6 +3,7 @@
 //!   compare time [RUNS]              k-means for every k from 2 to n - 1, medians of RUNS runs (5; more for small books, at most 3 for 256 names)
 use kmeans_harness::books::{block_correlations, distances, matrix, Book, BOOKS};
 use kmeans_harness::draws::{bad, in_range, limit, DRAWS};
+use kmeans_harness::lent::Lent;
 use kmeans_harness::leaf::{expected, floats_for, need, numbers_for, silence, Answer, Call, Leaf, LEAVES};
 use kmeans_harness::random::Random;
 use openquant::onc_leaf::open;
@@ -72,61 +73,6 @@ extern "C" {
         labels: *mut usize,
         labels_len: usize,
     ) -> usize;
-}
-
-/// Cells in front of each list and behind it that no call may write.
-const GUARD: usize = 24;
-
-/// A list as it is lent, with guard cells around it, and a copy of all its cells. Doubles are kept as their bits.
-struct Lent {
-    cells: Vec<u64>,
-    before: Vec<u64>,
-}
-
-impl Lent {
-    fn new(r: &mut Random, list: impl Iterator<Item = u64>) -> Lent {
-        let mut cells: Vec<u64> = (0..GUARD).map(|_| r.bits()).collect();
-        cells.extend(list);
-        cells.extend((0..GUARD).map(|_| r.bits()));
-        let before = cells.clone();
-        Lent { cells, before }
-    }
-    fn any(r: &mut Random, n: usize) -> Lent {
-        let seed = r.bits();
-        let mut own = Random::new(seed);
-        Lent::new(r, (0..n).map(move |_| own.bits()))
-    }
-    fn len(&self) -> usize {
-        self.cells.len() - 2 * GUARD
-    }
-    fn list(&self) -> &[u64] {
-        &self.cells[GUARD..GUARD + self.len()]
-    }
-    fn at<T>(&mut self) -> *mut T {
-        assert!(std::mem::size_of::<T>() == 8);
-        self.cells[GUARD..].as_mut_ptr().cast()
-    }
-    fn kept(&self) -> bool {
-        self.cells == self.before
-    }
-    /// Whether the first n cells are zero and all else, guards too, is as it was.
-    fn zero_in_front(&self, n: usize) -> bool {
-        let front = GUARD..GUARD + n;
-        self.cells.len() == self.before.len()
-            && self.cells.iter().zip(&self.before).enumerate().all(|(i, (now, old))| {
-                if front.contains(&i) {
-                    *now == 0
-                } else {
-                    now == old
-                }
-            })
-    }
-    /// Whether the list is this one and the guards are as they were.
-    fn is(&self, list: &[usize]) -> bool {
-        self.list().iter().map(|&x| x as usize).eq(list.iter().copied())
-            && self.cells[..GUARD] == self.before[..GUARD]
-            && self.cells[GUARD + list.len()..] == self.before[GUARD + list.len()..]
-    }
 }
 
 /// What of a call differs, in words; nothing where all is as expected.
