@@ -14,13 +14,13 @@ use Rattle.lists.proofs.Listed.{length-listed, getD-listed, listed-of, listed-s
 use Rattle.lists.proofs.Parts.{getD-front, getD-behind, getD-part, put-take, put-part, put-drop, put-length}
 use Rattle.columns.specs.Columns.{pointsAt}
 use Rattle.pairs.specs.Pairs.{pairsArea}
-use Rattle.scoring.specs.Scoring.{Round, scoresOf}
+use Rattle.scoring.specs.Scoring.{scoresOf}
 use Rattle.partition.specs.Partition.{Partition, State, joined, groupAt, labelOf}
 use Rattle.partition.specs.Orders.{sizesOf, cut, Sized}
 use Rattle.quality.specs.Quality.{qualitiesOf, average, weak, weakCount, weakMean, picked, onSide, weakGroups, keptGroups}
 use Rattle.improve.specs.Improve.{weakItems, translated, mergedOf, rescored, meanQuality}
 use Rattle.improve.specs.Steps.{stateOf, Weakened, Kept, Behind, Appended, Scored, Parted, Improvable, Merged, Improves}
-use Rattle.scoring.proofs.Laws.{round-areas, round-points, scores-same}
+use Rattle.scoring.proofs.Laws.{book-points, scores-same}
 use Rattle.partition.proofs.Members.{joined-append}
 use Rattle.partition.proofs.Cuts.{cut-length, cut-order, cut-joined, sized-of, partition-length, groups-few}
 use Rattle.partition.proofs.Labels.{labels-below}
@@ -217,19 +217,11 @@ module _ {gs : List (List ℕ)} {m r : ℕ} {out counts : List ℕ} (G : Merged 
       }
 
 -- the scores of groups, worked out on the areas of their book
-module _ (x : ℕ → ℕ → Float) (m : ℕ) (some : 0 < m) (few : m ≤ 256) (area : List Float) (size : length area ≡ 5 * (m * m)) {front : List Float} (e : front ≡ pairsArea x m) where
-  back-length : length (drop (4 * (m * m)) area) ≡ m * m
-  back-length = simp length-drop (omega (arith, size))
-
-  pub book-round : Round (front ++ drop (4 * (m * m)) area) m
-  book-round = rw e (round-areas x m (drop (4 * (m * m)) area) some few back-length)
-
-  pub book-scores : (gs : List (List ℕ)) {labels : List ℕ} {scores : List Float} → labels ≡ listed (labelOf gs) m
-      → scores ≡ scoresOf (pointsAt (front ++ drop (4 * (m * m)) area) m) m (numbers labels) → scores ≡ scoresOf x m (labelOf gs)
-  book-scores gs {labels} {scores} l h =
-      h ∙ scores-same (pointsAt (front ++ drop (4 * (m * m)) area) m) x m (numbers labels) (labelOf gs)
-      (λ i c a b. rw e (round-points x m (drop (4 * (m * m)) area) i c a b))
-      (λ i a. ap (λ (k : List ℕ). numbers k i) l ∙ getD-listed (labelOf gs) m i 0 a)
+pub book-scores : (x : ℕ → ℕ → Float) (m : ℕ) (area : List Float) {front : List Float} → front ≡ pairsArea x m → (gs : List (List ℕ)) {labels : List ℕ} {scores : List Float}
+    → labels ≡ listed (labelOf gs) m → scores ≡ scoresOf (pointsAt (front ++ drop (4 * (m * m)) area) m) m (numbers labels) → scores ≡ scoresOf x m (labelOf gs)
+book-scores x m area {front} e gs {labels} l h =
+    h ∙ scores-same (pointsAt (front ++ drop (4 * (m * m)) area) m) x m (numbers labels) (labelOf gs) (book-points x m area e)
+    (λ i a. ap (λ (k : List ℕ). numbers k i) l ∙ getD-listed (labelOf gs) m i 0 a)
 
 -- the label of each item is the number of one of the groups
 pub book-labels : {m count : ℕ} {order sizes labels : List ℕ} → Parted m count order sizes → 0 < m → labels ≡ listed (labelOf (cut count sizes order)) m → (i : ℕ) → i < m → numbers labels i < count

@@ -3,7 +3,7 @@ use Prim.Native.Nat.{ℕ, _*_, _<_, _≤_}
 use mathlib.Core.Path.{_≡_, sym, _∙_, ap}
 use mathlib.Core.List.{List, _++_}
 use native.Mathlib.Omega.{arith}
-use lib.ListN.{length, take}
+use lib.ListN.{length, take, drop, length-drop}
 use lib.Ieee.{Float, nan}
 use Rattle.lists.specs.Lists.{numbers, part, grid, cellAt}
 use Rattle.lists.proofs.Listed.{listed-same, length-listed}
@@ -67,6 +67,16 @@ round-areas x m back some few l =
 -- and their points are x
 pub round-points : (x : ℕ → ℕ → Float) (m : ℕ) (back : List Float) (i c : ℕ) → i < m → c < m → pointsAt (pairsArea x m ++ back) m i c ≡ x i c
 round-points x m back = pairs-points x m back
+
+-- the same of a list of five areas, over whose front the four were written
+module _ (x : ℕ → ℕ → Float) (m : ℕ) (area : List Float) {front : List Float} (e : front ≡ pairsArea x m) where
+  pub book-points : (i c : ℕ) → i < m → c < m → pointsAt (front ++ drop (4 * (m * m)) area) m i c ≡ x i c
+  book-points i c a b = rw e (round-points x m (drop (4 * (m * m)) area) i c a b)
+
+  pub book-round : 0 < m → m ≤ 256 → length area ≡ 5 * (m * m) → Round (front ++ drop (4 * (m * m)) area) m
+  book-round some few size =
+      let back : length (drop (4 * (m * m)) area) ≡ m * m = simp length-drop (omega (arith, size)) in
+      rw e (round-areas x m (drop (4 * (m * m)) area) some few back)
 
 -- where the first four areas are as they were, the points are, and so is what a round asks for
 module _ (m : ℕ) (a d : List Float) (e : take (4 * (m * m)) a ≡ take (4 * (m * m)) d) where

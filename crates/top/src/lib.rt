@@ -39,7 +39,7 @@ fn keep(
 }
 
 // A round with `left` rounds left, on the rows at the front of `wi`. Its answer goes to `order`, `sizes` and `scores`, which have a place for each of
-// its items; a run that ends leaves them as they were.
+// its items; a run that is refused leaves them as they were. The fronts of `wi` and `wf` are left with anything.
 pub fn cluster_kmeans_top(
     book: &[f64],
     n: usize,

@@ -7,7 +7,8 @@ use lib.Seq.{length-take-le}
 use lib.Ieee.{Float}
 use borrow.Author.Needs.{needs}
 use Rattle.distance.specs.Distance.{distAt}
-use Rattle.base.proofs.Laws.{book-areas, book-searched}
+use Rattle.scoring.proofs.Laws.{book-round}
+use Rattle.base.proofs.Laws.{book-searched}
 use Rattle.base.proofs.best_of_book.Statement.{statement}
 use Rattle.base.proofs.best_of_book.Tie as tie
 
@@ -36,7 +37,7 @@ best-candidate-requires : tie.Need-best-candidate-requires
 best-candidate-requires c κs =
     let m : ℕ = length (c .before .before .before .before .before .before .before .before .before .before .before .before .before .args .rows .now) in
     let x : ℕ → ℕ → Float = distAt (c .before .before .before .before .before .before .before .before .before .before .before .before .before .args .book .now) (c .before .before .before .before .before .before .before .before .before .before .before .before .before .args .n) (c .before .before .before .before .before .before .before .before .before .before .before .before .before .args .rows .now) in
-    (book-areas x m (c .before .before .before .before .before .before .before .before .before .before .before .before .before .pre .1 .two) (c .before .before .before .before .before .before .before .before .before .before .before .before .before .pre .0 .few-read) (c .before .before .before .before .before .before .before .before .before .before .before .before .before .args .area .now) (c .before .before .before .before .before .before .before .before .before .before .before .before .before .pre .2) (c .before .before .before .before .before .book-pairs .ensures), c .before .before .before .before .before .before .before .before .before .before .before .before .before .pre .1, c .before .before .before .before .before .before .before .before .before .before .before .before .before .pre .3, c .before .before .before .before .before .before .before .before .before .before .before .before .before .pre .4)
+    (book-round x m (c .before .before .before .before .before .before .before .before .before .before .before .before .before .args .area .now) (c .before .before .before .before .before .book-pairs .ensures) (omega (arith, c .before .before .before .before .before .before .before .before .before .before .before .before .before .pre .1 .two)) (c .before .before .before .before .before .before .before .before .before .before .before .before .before .pre .0 .few-read) (c .before .before .before .before .before .before .before .before .before .before .before .before .before .pre .2), c .before .before .before .before .before .before .before .before .before .before .before .before .before .pre .1, c .before .before .before .before .before .before .before .before .before .before .before .before .before .pre .3, c .before .before .before .before .before .before .before .before .before .before .before .before .before .pre .4)
 
 same-length : tie.Need-same-length
 same-length c = search needs
@@ -51,7 +52,7 @@ returns : tie.Need-returns
 returns c =
     let m : ℕ = length (c .before .before .before .before .before .before .before .before .before .before .before .before .before .before .before .before .before .before .before .before .args .rows .now) in
     let x : ℕ → ℕ → Float = distAt (c .before .before .before .before .before .before .before .before .before .before .before .before .before .before .before .before .before .before .before .before .args .book .now) (c .before .before .before .before .before .before .before .before .before .before .before .before .before .before .before .before .before .before .before .before .args .n) (c .before .before .before .before .before .before .before .before .before .before .before .before .before .before .before .before .before .before .before .before .args .rows .now) in
-    book-searched x m (c .before .before .before .before .before .before .before .before .before .before .before .before .before .before .before .before .before .before .before .before .pre .1 .two) (c .before .before .before .before .before .before .before .before .before .before .before .before .before .before .before .before .before .before .before .before .pre .0 .few-read) (c .before .before .before .before .before .before .before .before .before .before .before .before .before .before .before .before .before .before .before .before .args .area .now) (c .before .before .before .before .before .before .before .before .before .before .before .before .before .before .before .before .before .before .before .before .pre .2) (c .before .before .before .before .before .before .before .before .before .before .before .before .book-pairs .ensures)
+    book-searched x m (c .before .before .before .before .before .before .before .before .before .before .before .before .before .before .before .before .before .before .before .before .pre .1 .two) (c .before .before .before .before .before .before .before .before .before .before .before .before .before .before .before .before .before .before .before .before .args .area .now) (c .before .before .before .before .before .before .before .before .before .before .before .before .book-pairs .ensures)
     (c .before .before .before .before .before .before .before .before .before .before .before .before .before .before .before .before .before .before .before .before .args .repeat) (c .before .before .before .before .before .before .before .before .before .before .before .before .before .before .before .before .before .before .before .before .args .at) (drop (c .before .before .before .before .before .before .before .before .before .before .before .before .before .before .before .before .before .before .before .before .args .at) (c .before .before .before .before .before .before .before .before .before .before .before .before .before .before .before .before .before .before .before .before .args .draws .now)) (c .before .before .before .before .before .before .best-candidate .ensures)
 
 pub best-of-book-spec : {M : Type 1} → statement M

@@ -10,7 +10,8 @@ use Rattle.distance.specs.Distance.{distAt}
 use Rattle.lists.specs.Lists.{listed}
 use Rattle.partition.specs.Partition.{labelOf}
 use Rattle.partition.specs.Orders.{cut}
-use Rattle.improve.proofs.Laws.{book-labels, book-round, book-scores}
+use Rattle.scoring.proofs.Laws.{book-round}
+use Rattle.improve.proofs.Laws.{book-labels, book-scores}
 use Rattle.improve.proofs.rescore_with.Statement.{statement}
 use Rattle.improve.proofs.rescore_with.Tie as tie
 
@@ -43,7 +44,7 @@ scores-in-requires c κs =
     let m : ℕ = length (c .before .before .before .before .before .before .before .before .before .before .before .before .before .before .before .before .before .before .args .rows .now) in
     let ll : length (c .before .before .before .before .before .labels-from-clusters .last .1 .1 .1 .0) ≡ m = c .before .before .before .before .before .labels-from-clusters .kept .1 .1 .1 .0 ∙ c .before .before .before .before .before .before .before .before .before .before .before .before .before .before .before .before .before .before .pre .labels-long in
     let l : _≡_ {A = List ℕ} (c .before .before .before .before .before .labels-from-clusters .last .1 .1 .1 .0) (listed (labelOf (cut (c .before .before .before .before .before .before .before .before .before .before .before .before .before .before .before .before .before .before .args .count) (c .before .before .before .before .before .before .before .before .before .before .before .before .before .before .before .before .before .before .args .sizes .now) (c .before .before .before .before .before .before .before .before .before .before .before .before .before .before .before .before .before .before .args .order .now))) m) = rw (c .before .before .before .before .before .before .before .before .before .before .before .before .before .before .before .before .before .before .pre .labels-long) at (c .before .before .before .before .before .labels-from-clusters .ensures) in
-    (book-round (distAt (c .before .before .before .before .before .before .before .before .before .before .before .before .before .before .before .before .before .before .args .book .now) (c .before .before .before .before .before .before .before .before .before .before .before .before .before .before .before .before .before .before .args .n) (c .before .before .before .before .before .before .before .before .before .before .before .before .before .before .before .before .before .before .args .rows .now)) (length (c .before .before .before .before .before .before .before .before .before .before .before .before .before .before .before .before .before .before .args .rows .now)) (c .before .before .before .before .before .before .before .before .before .before .before .before .before .before .before .before .before .before .pre .some) (c .before .before .before .before .before .before .before .before .before .before .before .before .before .before .before .before .before .before .pre .readable .few-read) (c .before .before .before .before .before .before .before .before .before .before .before .before .before .before .before .before .before .before .args .area .now) (c .before .before .before .before .before .before .before .before .before .before .before .before .before .before .before .before .before .before .pre .size) (c .before .before .before .before .before .before .before .before .before .book-pairs .ensures), ll, c .before .before .before .before .before .before .before .before .before .before .before .before .before .before .before .before .before .before .pre .scores-long, c .before .before .before .before .before .before .before .before .before .before .before .before .before .before .before .before .before .before .pre .groups .sized .groups, book-labels (c .before .before .before .before .before .before .before .before .before .before .before .before .before .before .before .before .before .before .pre .groups) (c .before .before .before .before .before .before .before .before .before .before .before .before .before .before .before .before .before .before .pre .some) l)
+    (book-round (distAt (c .before .before .before .before .before .before .before .before .before .before .before .before .before .before .before .before .before .before .args .book .now) (c .before .before .before .before .before .before .before .before .before .before .before .before .before .before .before .before .before .before .args .n) (c .before .before .before .before .before .before .before .before .before .before .before .before .before .before .before .before .before .before .args .rows .now)) (length (c .before .before .before .before .before .before .before .before .before .before .before .before .before .before .before .before .before .before .args .rows .now)) (c .before .before .before .before .before .before .before .before .before .before .before .before .before .before .before .before .before .before .args .area .now) (c .before .before .before .before .before .before .before .before .before .book-pairs .ensures) (c .before .before .before .before .before .before .before .before .before .before .before .before .before .before .before .before .before .before .pre .some) (c .before .before .before .before .before .before .before .before .before .before .before .before .before .before .before .before .before .before .pre .readable .few-read) (c .before .before .before .before .before .before .before .before .before .before .before .before .before .before .before .before .before .before .pre .size), ll, c .before .before .before .before .before .before .before .before .before .before .before .before .before .before .before .before .before .before .pre .scores-long, c .before .before .before .before .before .before .before .before .before .before .before .before .before .before .before .before .before .before .pre .groups .sized .groups, book-labels (c .before .before .before .before .before .before .before .before .before .before .before .before .before .before .before .before .before .before .pre .groups) (c .before .before .before .before .before .before .before .before .before .before .before .before .before .before .before .before .before .before .pre .some) l)
 
 same-length : tie.Need-same-length
 same-length c = search needs
@@ -58,7 +59,7 @@ returns : tie.Need-returns
 returns c =
     let m : ℕ = length (c .before .before .before .before .before .before .before .before .before .before .before .before .before .before .before .before .before .before .before .before .before .args .rows .now) in
     let l : _≡_ {A = List ℕ} (c .before .before .before .before .before .before .before .before .labels-from-clusters .last .1 .1 .1 .0) (listed (labelOf (cut (c .before .before .before .before .before .before .before .before .before .before .before .before .before .before .before .before .before .before .before .before .before .args .count) (c .before .before .before .before .before .before .before .before .before .before .before .before .before .before .before .before .before .before .before .before .before .args .sizes .now) (c .before .before .before .before .before .before .before .before .before .before .before .before .before .before .before .before .before .before .before .before .before .args .order .now))) m) = rw (c .before .before .before .before .before .before .before .before .before .before .before .before .before .before .before .before .before .before .before .before .before .pre .labels-long) at (c .before .before .before .before .before .before .before .before .labels-from-clusters .ensures) in
-    book-scores (distAt (c .before .before .before .before .before .before .before .before .before .before .before .before .before .before .before .before .before .before .before .before .before .args .book .now) (c .before .before .before .before .before .before .before .before .before .before .before .before .before .before .before .before .before .before .before .before .before .args .n) (c .before .before .before .before .before .before .before .before .before .before .before .before .before .before .before .before .before .before .before .before .before .args .rows .now)) (length (c .before .before .before .before .before .before .before .before .before .before .before .before .before .before .before .before .before .before .before .before .before .args .rows .now)) (c .before .before .before .before .before .before .before .before .before .before .before .before .before .before .before .before .before .before .before .before .before .pre .some) (c .before .before .before .before .before .before .before .before .before .before .before .before .before .before .before .before .before .before .before .before .before .pre .readable .few-read) (c .before .before .before .before .before .before .before .before .before .before .before .before .before .before .before .before .before .before .before .before .before .args .area .now) (c .before .before .before .before .before .before .before .before .before .before .before .before .before .before .before .before .before .before .before .before .before .pre .size) (c .before .before .before .before .before .before .before .before .before .before .before .before .book-pairs .ensures) (cut (c .before .before .before .before .before .before .before .before .before .before .before .before .before .before .before .before .before .before .before .before .before .args .count) (c .before .before .before .before .before .before .before .before .before .before .before .before .before .before .before .before .before .before .before .before .before .args .sizes .now) (c .before .before .before .before .before .before .before .before .before .before .before .before .before .before .before .before .before .before .before .before .before .args .order .now)) l (c .before .before .scores-in .ensures)
+    book-scores (distAt (c .before .before .before .before .before .before .before .before .before .before .before .before .before .before .before .before .before .before .before .before .before .args .book .now) (c .before .before .before .before .before .before .before .before .before .before .before .before .before .before .before .before .before .before .before .before .before .args .n) (c .before .before .before .before .before .before .before .before .before .before .before .before .before .before .before .before .before .before .before .before .before .args .rows .now)) (length (c .before .before .before .before .before .before .before .before .before .before .before .before .before .before .before .before .before .before .before .before .before .args .rows .now)) (c .before .before .before .before .before .before .before .before .before .before .before .before .before .before .before .before .before .before .before .before .before .args .area .now) (c .before .before .before .before .before .before .before .before .before .before .before .before .book-pairs .ensures) (cut (c .before .before .before .before .before .before .before .before .before .before .before .before .before .before .before .before .before .before .before .before .before .args .count) (c .before .before .before .before .before .before .before .before .before .before .before .before .before .before .before .before .before .before .before .before .before .args .sizes .now) (c .before .before .before .before .before .before .before .before .before .before .before .before .before .before .before .before .before .before .before .before .before .args .order .now)) l (c .before .before .scores-in .ensures)
 
 pub rescore-with-spec : {M : Type 1} → statement M
 rescore-with-spec =
