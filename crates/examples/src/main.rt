@@ -8,6 +8,7 @@ ghost use lib.ListN.{length};
 use refusals::Answer;
 use squared::Squared;
 use stats::Average;
+use words::Counts;
 
 // The sizes of a case, and the word at which its expected answer starts.
 struct Case {
@@ -79,14 +80,7 @@ fn same_list(text: &[u8], expected: usize, xs: &[f64]) -> bool {
     if expected > 100000 {
         return false;
     }
-    let at = expected + 3;
-    let n = xs.len();
-    for i in 0..n {
-        if words::bits_of(xs[i]) != words::word_from(text, at, i) {
-            return false;
-        }
-    }
-    true
+    words::same_doubles(text, expected + 3, xs)
 }
 
 fn of_average(a: Average) -> Outcome {
@@ -265,7 +259,7 @@ fn same_value(text: &[u8], expected: usize, o: Outcome) -> bool {
     if o.count == 0 {
         return true;
     }
-    words::bits_of(o.value) == words::word_from(text, expected, 3)
+    bits::bits_of(o.value) == words::word_from(text, expected, 3)
 }
 
 // The front of its working list that a leaf leaves zero, by the number that it answered: a refused call leaves the list as
@@ -292,7 +286,7 @@ fn same_lists(text: &[u8], c: Case, answer: Answer, out: &[f64], floats: &[f64])
     if !same_list(text, c.expected, out) {
         return false;
     }
-    words::left_right(floats, front_of(c, o.number))
+    words::left_doubles(floats, front_of(c, o.number))
 }
 
 // Runs a leaf that fills a list, and compares what it left.
@@ -380,7 +374,7 @@ fn run(text: &[u8])
         cases = cases + 1;
         at = after(text, c.expected);
     }
-    words::summary(cases, differ);
+    words::summary(Counts { cases, differ });
 }
 
 fn main() {

@@ -5,6 +5,7 @@ pub mod First
 pub mod Rows
 pub mod Grid
 pub mod Parts
+pub mod Refilled
 pub mod Areas
 pub mod Sums
 pub mod Floats

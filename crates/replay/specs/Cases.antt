@@ -1,25 +1,15 @@
 -- A recorded case of a k-means leaf, and whether the leaf answers and leaves what is recorded. Definitions only.
 use Prim.Native.Nat.{ℕ, zero, suc, _+_, _/_}
-use mathlib.Core.Bool.{Bool, cond, not, _&&_, _||_}
+use mathlib.Core.Bool.{Bool, cond, _&&_}
 use mathlib.Core.List.{List}
-use lib.Dec.{eqb, ltb, leb}
+use lib.Dec.{eqb}
 use lib.ListN.{length, replicate}
 use lib.Ieee.{Float}
-use Rattle.lists.specs.Lists as list
-use Rattle.lists.specs.Lists.{listed, firstTo}
-use Rattle.lists.specs.Sums.{allTo, countIf}
-use Rattle.refusals.specs.Table.{Refusal, workNumbers}
+use Rattle.refusals.specs.Table.{Refusal}
 use Rattle.kmeans_answers.specs.Leaf.{Leaf}
 use Rattle.kmeans.specs.Leaves.{plusPlusLeaf, lloydLeaf, labelsLeaf}
-use Rattle.words.specs.Words.{wordFrom, sizeFrom, doubleOf, frontOf, leftDoubles}
+use Rattle.words.specs.Words.{wordFrom, sizeFrom, doublesFrom, wordsFrom, sameNumbers, seven, namesWiped, leftLists, casesBy, differBy}
 use Rattle.replay.specs.declared.Case.{Case}
-
--- n words from `at` on, as doubles and as numbers
-abbrev pub doublesFrom : List ℕ → ℕ → ℕ → List Float
-doublesFrom text at n = listed (λ i. doubleOf (wordFrom text at i)) n
-
-abbrev pub wordsFrom : List ℕ → ℕ → ℕ → List ℕ
-wordsFrom text at n = listed (λ i. wordFrom text at i) n
 
 -- the case at `at`: eight words, two lists, and then the expected answer
 unfoldable pub caseAt : List ℕ → ℕ → Case
@@ -46,36 +36,11 @@ leafOf c points draws centres out floats numbers =
 unfoldable pub sameAnswer : List ℕ → ℕ → Refusal → ℕ → Bool
 sameAnswer text expected q read = eqb (q .number) (wordFrom text expected 0) && (eqb (q .place) (wordFrom text expected 1) && eqb read (wordFrom text expected 2))
 
--- whether a list has the numbers that the text has three words after `expected`
-unfoldable pub sameNumbers : List ℕ → ℕ → List ℕ → Bool
-sameNumbers text expected xs = allTo (λ i. eqb (list.numbers xs i) (wordFrom text expected (i + 3))) (length xs)
-
--- The names by which the fronts are counted that a leaf leaves zero: n, of at most 256, where it has started, and so answers 0, 7 or 8;
--- none where it answers the number of a row that keeps every list.
-unfoldable pub namesWiped : ℕ → ℕ → ℕ
-namesWiped n number = cond (ltb 256 n) 0 (cond (eqb number 0 || (eqb number 7 || eqb number 8)) n 0)
-
--- what the working numbers have at i after a call that leaves their front zero: 0 there, and 999, as they were lent, behind
-abbrev pub leftAt : ℕ → ℕ → ℕ
-leftAt front i = cond (ltb i front) 0 999
-
--- whether they are so
-unfoldable pub leftNumbers : List ℕ → ℕ → Bool
-leftNumbers numbers front = allTo (λ i. eqb (list.numbers numbers i) (leftAt front i)) (length numbers)
-
--- whether both working lists are as a leaf over n names leaves them that answers `number`
-unfoldable pub leftRight : ℕ → ℕ → List Float → List ℕ → Bool
-leftRight n number floats numbers = leftDoubles floats (frontOf (namesWiped n number)) && leftNumbers numbers (workNumbers (namesWiped n number))
-
 -- whether the case's leaf answers and leaves what is recorded
 unfoldable pub rightLeaf : List ℕ → Case → Leaf → Bool
 rightLeaf text c l =
     sameAnswer text (c .expected) (l .answer) (l .read)
-    && (sameNumbers text (c .expected) (l .out) && leftRight (c .n) (l .answer .number) (l .floats) (l .numbers))
-
--- 7.0, which each double of a lent list is before the call; each whole number is 999
-abbrev pub seven : Float
-seven = doubleOf 0x401c_0000_0000_0000
+    && (sameNumbers text (c .expected + 3) (l .out) && leftLists (namesWiped (l .answer .number) (c .n)) (l .floats) (l .numbers))
 
 -- the same, on lent lists of the case's lengths
 unfoldable pub rightLists : List ℕ → Case → List Float → List ℕ → List ℕ → Bool
@@ -96,9 +61,9 @@ startOf text (suc j) = caseAt text (startOf text j) .expected + 3 + caseAt text 
 abbrev pub rightAt : List ℕ → ℕ → Bool
 rightAt text j = rightCase text (startOf text j) (caseAt text (startOf text j))
 
--- the cases of a text, up to the first that would start behind its last word; and how many of them are answered otherwise
+-- the cases of a text, and how many of them are answered otherwise
 unfoldable pub casesIn : List ℕ → ℕ
-casesIn text = firstTo (λ j. leb (length text / 17) (startOf text j)) (length text / 17 + 1)
+casesIn text = casesBy (startOf text) (length text / 17)
 
 unfoldable pub differIn : List ℕ → ℕ
-differIn text = countIf (λ j. not (rightAt text j)) (casesIn text)
+differIn text = differBy (rightAt text) (casesIn text)

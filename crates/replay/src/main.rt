@@ -9,9 +9,11 @@
 ghost use Prim.Native.Nat.{_+_, _≤_};
 ghost use mathlib.Core.Path.{_≡_};
 ghost use lib.ListN.{length, take, replicate};
-ghost use Rattle.kmeans_answers.specs.Answers.{numberOf, refusalOf, readOf};
-ghost use Rattle.replay.specs.Cases.{seven, doublesFrom, wordsFrom, caseAt, leafOf, sameAnswer, sameNumbers, namesWiped, leftAt, leftNumbers, leftRight, rightLeaf, rightLists, rightCase, casesIn, differIn};
+ghost use Rattle.kmeans_answers.specs.Answers.{refusalOf, readOf};
+ghost use Rattle.words.specs.Words.{seven, doublesFrom, wordsFrom};
+ghost use Rattle.replay.specs.Cases.{caseAt, leafOf, sameAnswer, rightLeaf, rightLists, rightCase, casesIn, differIn};
 use kmeans_answers::Kmeans;
+use words::Counts;
 
 // The sizes of a case, and the word at which its expected answer starts.
 struct Case {
@@ -141,73 +143,6 @@ fn same_answer(text: &[u8], expected: usize, a: Kmeans) -> bool
     kmeans_answers::read_of(a) as u64 == words::word_from(text, expected, 2)
 }
 
-// Whether the list has the numbers that the text has three words after `expected`.
-fn same_numbers(text: &[u8], expected: usize, xs: &[usize]) -> bool
-    ensures { λ r. ⌜ r ≡ sameNumbers (now (text .entry)) expected (now (xs .entry)) ⌝ }
-{
-    let n = xs.len();
-    for i in 0..n {
-        if xs[i] != words::word_from(text, expected, i + 3) as usize {
-            return false;
-        }
-    }
-    true
-}
-
-// What the working numbers have at i after a call that leaves their front zero: 0 there, and 999, as lent, behind.
-fn left_at(i: usize, front: usize) -> usize
-    ensures { λ r. ⌜ r ≡ leftAt front i ⌝ }
-{
-    if i < front {
-        return 0;
-    }
-    999
-}
-
-// Whether the front of the working numbers is 0 and the rest as it was lent.
-fn left_numbers(numbers: &[usize], front: usize) -> bool
-    ensures { λ r. ⌜ r ≡ leftNumbers (now (numbers .entry)) front ⌝ }
-{
-    let n = numbers.len();
-    for i in 0..n {
-        if numbers[i] != left_at(i, front) {
-            return false;
-        }
-    }
-    true
-}
-
-// The names by which the fronts are counted that are left zero: none where the answer's row keeps every list.
-fn names_wiped(n: usize, a: Kmeans) -> usize
-    ensures { λ r. ⌜ (r ≡ namesWiped n (numberOf a)) × (r ≤ 256) ⌝ }
-{
-    if n > 256 {
-        return 0;
-    }
-    let number = kmeans_answers::number_of(a);
-    if number == 0 {
-        return n;
-    }
-    if number == 7 {
-        return n;
-    }
-    if number == 8 {
-        return n;
-    }
-    0
-}
-
-// Whether both working lists are as the answer asks.
-fn left_right(n: usize, a: Kmeans, floats: &[f64], numbers: &[usize]) -> bool
-    ensures { λ r. ⌜ r ≡ leftRight n (numberOf a) (now (floats .entry)) (now (numbers .entry)) ⌝ }
-{
-    let m = names_wiped(n, a);
-    if !words::left_right(floats, words::front(m)) {
-        return false;
-    }
-    left_numbers(numbers, 320 * m)
-}
-
 // Runs a leaf, and compares what it answers and leaves.
 fn right_lists(
     text: &[u8],
@@ -219,21 +154,23 @@ fn right_lists(
     floats: &mut [f64],
     numbers: &mut [usize],
 ) -> bool
+    requires { ⌜ c .expected ≤ 20328 ⌝ }
     ensures { λ r. ⌜ r ≡ rightLeaf (now (text .entry)) c (leafOf c (now (points .entry)) (now (draws .entry)) (now (centres .entry)) (now (out .entry)) (now (floats .entry)) (now (numbers .entry))) ⌝ }
 {
     let a = call(c, points, draws, centres, out, floats, numbers);
     if !same_answer(text, c.expected, a) {
         return false;
     }
-    if !same_numbers(text, c.expected, out) {
+    if !words::same_numbers(text, c.expected + 3, out) {
         return false;
     }
-    left_right(c.n, a, floats, numbers)
+    let names = words::names_wiped(kmeans_answers::number_of(a), c.n);
+    words::left_lists(names, floats, numbers)
 }
 
 // The same, on lists of the case's sizes.
 fn right_list(text: &[u8], c: Case, points: &[f64], draws: &[u64], centres: &[usize]) -> bool
-    requires { ⌜ (c .out ≤ 64) × (c .floats ≤ 6400) × (c .numbers ≤ 5400) ⌝ }
+    requires { ⌜ (c .out ≤ 64) × (c .floats ≤ 6400) × (c .numbers ≤ 5400) × (c .expected ≤ 20328) ⌝ }
     ensures { λ r. ⌜ r ≡ rightLists (now (text .entry)) c (now (points .entry)) (now (draws .entry)) (now (centres .entry)) ⌝ }
 {
     let mut out = number_buffer();
@@ -256,7 +193,7 @@ fn right_list(text: &[u8], c: Case, points: &[f64], draws: &[u64], centres: &[us
 
 // Reads the case's lists, the second both as draws and as centres, and runs it.
 fn right_case(text: &[u8], at: usize, c: Case) -> bool
-    requires { ⌜ (at ≤ 20000) × (c .points ≤ 256) × (c .list ≤ 64) × (c .out ≤ 64) × (c .floats ≤ 6400) × (c .numbers ≤ 5400) ⌝ }
+    requires { ⌜ (at ≤ 20000) × (c .points ≤ 256) × (c .list ≤ 64) × (c .out ≤ 64) × (c .floats ≤ 6400) × (c .numbers ≤ 5400) × (c .expected ≤ 20328) ⌝ }
     ensures { λ r. ⌜ r ≡ rightCase (now (text .entry)) at c ⌝ }
 {
     let n_points = c.points;
@@ -273,12 +210,6 @@ fn right_case(text: &[u8], at: usize, c: Case) -> bool
         &draws[..n_list],
         &centres[..n_list],
     )
-}
-
-// How many cases ran, and how many of them differed.
-struct Counts {
-    cases: u64,
-    differ: u64,
 }
 
 // Runs every case of the text, and reports those that differ.
@@ -304,5 +235,5 @@ fn main() {
     let mut text = words::text_buffer();
     let n = io::read_full(0, &mut text);
     let counts = run(&text[..n]);
-    words::summary(counts.cases, counts.differ);
+    words::summary(counts);
 }

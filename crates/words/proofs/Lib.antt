@@ -1,4 +1,4 @@
--- Laws of patterns, of the words of a text, and of lists that are lent in part.
-pub mod Patterns
+-- Laws of the words of a text, of the zero fronts, and of counting the cases of a text.
 pub mod Values
-pub mod Refilled
+pub mod Wiped
+pub mod Counting

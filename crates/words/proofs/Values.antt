@@ -1,7 +1,7 @@
 -- The steps of reading a word, and what a test of two values says. Assumes nothing.
 use Prim.Native.Nat.{ℕ, _+_, _<_, _≤_}
 use mathlib.Core.Path.{_≡_}
-use mathlib.Core.Bool.{cond, true, false}
+use mathlib.Core.Bool.{Bool, cond, true, false, _&&_}
 use native.Mathlib.Numerals.{add-one}
 use borrow.Author.Tests.{lt-ltb, le-ltb, eq-eqb, ne-eqb}
 use lib.Dec.{ltb, eqb}
@@ -28,3 +28,10 @@ same-at {a} {b} p q h = rw (← p, ← q) (eq-eqb a b h)
 
 pub test-at : {a b x y : ℕ} → a ≡ x → b ≡ y → eqb a b ≡ eqb x y
 test-at p q = rw (p, q)
+
+-- two tests, the second of which is made where the first passes
+pub first-fails : (y : Bool) {a x : Bool} → a ≡ x → a ≡ false → false ≡ x && y
+first-fails y e h = rw (← e, h)
+
+pub first-passes : {a b x y : Bool} → a ≡ x → a ≡ true → b ≡ y → b ≡ x && y
+first-passes e h f = rw (← e, h) f

@@ -1,2 +1,2 @@
--- The words of a text, what they say, and what a working list must hold after a call (Words.antt).
+-- The words of a text, what they say, what the lists of a call must hold afterwards, and the count of cases (Words.antt).
 pub mod Words

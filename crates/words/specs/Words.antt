@@ -1,13 +1,15 @@
--- The words of a text, one a line of 16 hex digits and a newline, as numbers, sizes and doubles. Definitions only.
+-- The words of a text, one a line of 16 hex digits and a newline, as numbers, sizes and doubles; what the lists of a call must hold
+-- afterwards; and the count of the cases of a text. Definitions only.
 use Prim.Native.Nat.{ℕ, zero, suc, _+_, _*_, _%_}
-use mathlib.Core.Bool.{Bool, cond}
+use mathlib.Core.Bool.{Bool, cond, not, _&&_, _||_}
 use mathlib.Core.List.{List}
-use lib.Dec.{eqb, ltb}
+use lib.Dec.{eqb, ltb, leb}
 use lib.ListN.{length}
-use lib.Ieee.{Float, ofBits, toBits, binary64}
-use Rattle.lists.specs.Lists.{cells, numbers, part}
-use Rattle.lists.specs.Sums.{allTo}
-use Rattle.refusals.specs.Table.{workDoubles}
+use lib.Ieee.{Float}
+use Rattle.lists.specs.Lists.{cells, numbers, part, listed, firstTo}
+use Rattle.lists.specs.Sums.{allTo, countIf}
+use Rattle.bits.specs.Bits.{bitsOf, doubleOf}
+use Rattle.refusals.specs.Table.{workDoubles, workNumbers}
 
 -- the value of a digit's byte, 0 to 9 or a to f
 unfoldable pub digitOf : ℕ → ℕ
@@ -37,21 +39,61 @@ wordFrom text at i = cond (ltb 100000 at) 0 (cond (ltb 100000 i) 0 (wordAt text 
 abbrev pub sizeFrom : List ℕ → ℕ → ℕ → ℕ → ℕ
 sizeFrom text at i most = cond (ltb most (wordFrom text at i)) most (wordFrom text at i)
 
--- the double of a pattern, where every NaN pattern is one NaN; and the pattern of a double, where a NaN has 7ff8000000000000
-abbrev pub doubleOf : ℕ → Float
-doubleOf bits = ofBits binary64 bits
+-- n words from `at` on, as doubles and as numbers
+abbrev pub doublesFrom : List ℕ → ℕ → ℕ → List Float
+doublesFrom text at n = listed (λ i. doubleOf (wordFrom text at i)) n
 
-abbrev pub bitsOf : Float → ℕ
-bitsOf x = toBits binary64 x
+abbrev pub wordsFrom : List ℕ → ℕ → ℕ → List ℕ
+wordsFrom text at n = listed (λ i. wordFrom text at i) n
 
--- the doubles at the front of a working list that a call over m names leaves zero
+-- whether a list has the numbers, and whether it has the bits, that the text has from `at` on
+unfoldable pub sameNumbers : List ℕ → ℕ → List ℕ → Bool
+sameNumbers text at xs = allTo (λ i. eqb (numbers xs i) (wordFrom text at i)) (length xs)
+
+unfoldable pub sameDoubles : List ℕ → ℕ → List Float → Bool
+sameDoubles text at xs = allTo (λ i. eqb (bitsOf (cells xs i)) (wordFrom text at i)) (length xs)
+
+-- the bits of 7.0, which each double of a lent list is before the call; each whole number is 999
+abbrev pub sevenBits : ℕ
+sevenBits = 0x401c_0000_0000_0000
+
+abbrev pub seven : Float
+seven = doubleOf sevenBits
+
+-- the doubles, and the whole numbers, at the front of a working list that a call over m names leaves zero
 abbrev pub frontOf : ℕ → ℕ
 frontOf m = cond (ltb 256 m) 0 (workDoubles m)
 
--- what a working list has at i after a call that leaves its front zero: +0 there, and 7.0, as it was lent, behind
-abbrev pub leftAt : ℕ → ℕ → ℕ
-leftAt front i = cond (ltb i front) 0 0x401c_0000_0000_0000
+abbrev pub numbersFrontOf : ℕ → ℕ
+numbersFrontOf m = cond (ltb 256 m) 0 (workNumbers m)
+
+-- what a working list has at i after a call that leaves its front zero: 0 there, and what it was lent with behind
+abbrev pub leftAt : ℕ → ℕ → ℕ → ℕ
+leftAt front lent i = cond (ltb i front) 0 lent
 
 -- whether a working list is so
 unfoldable pub leftDoubles : List Float → ℕ → Bool
-leftDoubles floats front = allTo (λ i. eqb (bitsOf (cells floats i)) (leftAt front i)) (length floats)
+leftDoubles floats front = allTo (λ i. eqb (bitsOf (cells floats i)) (leftAt front sevenBits i)) (length floats)
+
+unfoldable pub leftNumbers : List ℕ → ℕ → Bool
+leftNumbers xs front = allTo (λ i. eqb (numbers xs i) (leftAt front 999 i)) (length xs)
+
+-- whether both are, after a call over m names
+unfoldable pub leftLists : ℕ → List Float → List ℕ → Bool
+leftLists m floats xs = leftDoubles floats (frontOf m) && leftNumbers xs (numbersFrontOf m)
+
+-- whether a run or a leaf that answers this number of the table got past the rows that keep every list, and so leaves the fronts zero; 0: not refused
+unfoldable pub wipes : ℕ → Bool
+wipes number = eqb number 0 || (eqb number 3 || (eqb number 7 || (eqb number 8 || eqb number 9)))
+
+-- how many names the zero fronts are measured by: n, of at most 256, or 0 where every list is kept
+unfoldable pub namesWiped : ℕ → ℕ → ℕ
+namesWiped number n = cond (ltb 256 n) 0 (cond (wipes number) n 0)
+
+-- the cases of a text of n words, by where each starts: up to the first that would start behind the last word
+unfoldable pub casesBy : (ℕ → ℕ) → ℕ → ℕ
+casesBy start n = firstTo (λ j. leb n (start j)) (n + 1)
+
+-- how many of the first n cases are not right
+abbrev pub differBy : (ℕ → Bool) → ℕ → ℕ
+differBy right n = countIf (λ j. not (right j)) n

@@ -1,11 +1,10 @@
-// What the programs that run recorded cases share: the words of a text, one a line of 16 hex digits; what a working list
-// must hold after a call; what is printed.
+// What the programs that run recorded cases share: the words of a text, one a line of 16 hex digits; what the lists of a
+// call must hold afterwards; what is printed.
 ghost use Prim.Native.Nat.{_≤_};
 ghost use mathlib.Core.Path.{_≡_};
 ghost use mathlib.Core.Bool.{cond};
 ghost use lib.ListN.{length};
-ghost use Rattle.lists.specs.Lists.{listed};
-ghost use Rattle.words.specs.Words.{digitOf, withDigit, valueOf, wordAt, wordFrom, sizeFrom, doubleOf, bitsOf, frontOf, leftAt, leftDoubles};
+ghost use Rattle.words.specs.Words.{digitOf, withDigit, valueOf, wordAt, wordFrom, sizeFrom, doublesFrom, wordsFrom, sameNumbers, sameDoubles, frontOf, numbersFrontOf, leftAt, leftDoubles, leftNumbers, leftLists, namesWiped};
 
 // A text's bytes, by their count alone: a literal array would stand in every goal, cell by cell.
 pub fn text_buffer() -> [u8; 262144]
@@ -82,38 +81,18 @@ pub fn size_from(text: &[u8], at: usize, i: usize, most: usize) -> usize
     value
 }
 
-// The double of a pattern; every NaN pattern is one NaN.
-fn double_of(bits: u64) -> f64
-    ensures { λ r. ⌜ r ≡ doubleOf bits ⌝ }
-{
-    if bits % 0x8000_0000_0000_0000 > 0x7ff0_0000_0000_0000 {
-        return 0.0 / 0.0;
-    }
-    f64::from_bits(bits)
-}
-
-// The pattern of a double; every NaN has one.
-pub fn bits_of(x: f64) -> u64
-    ensures { λ r. ⌜ r ≡ bitsOf x ⌝ }
-{
-    if x != x {
-        return 0x7ff8_0000_0000_0000;
-    }
-    f64::to_bits(x)
-}
-
 // The words from `at` on into a list: as doubles, as numbers and as draws.
 pub fn doubles(text: &[u8], at: usize, xs: &mut [f64])
-    ensures { λ _. ⌜ now (xs .exit) ≡ listed (λ i. doubleOf (wordFrom (now (text .entry)) at i)) (length (now (xs .entry))) ⌝ }
+    ensures { λ _. ⌜ now (xs .exit) ≡ doublesFrom (now (text .entry)) at (length (now (xs .entry))) ⌝ }
 {
     let n = xs.len();
     for i in 0..n {
-        xs[i] = double_of(word_from(text, at, i));
+        xs[i] = bits::double_of(word_from(text, at, i));
     }
 }
 
 pub fn numbers(text: &[u8], at: usize, xs: &mut [usize])
-    ensures { λ _. ⌜ now (xs .exit) ≡ listed (λ i. wordFrom (now (text .entry)) at i) (length (now (xs .entry))) ⌝ }
+    ensures { λ _. ⌜ now (xs .exit) ≡ wordsFrom (now (text .entry)) at (length (now (xs .entry))) ⌝ }
 {
     let n = xs.len();
     for i in 0..n {
@@ -122,12 +101,37 @@ pub fn numbers(text: &[u8], at: usize, xs: &mut [usize])
 }
 
 pub fn draws(text: &[u8], at: usize, xs: &mut [u64])
-    ensures { λ _. ⌜ now (xs .exit) ≡ listed (λ i. wordFrom (now (text .entry)) at i) (length (now (xs .entry))) ⌝ }
+    ensures { λ _. ⌜ now (xs .exit) ≡ wordsFrom (now (text .entry)) at (length (now (xs .entry))) ⌝ }
 {
     let n = xs.len();
     for i in 0..n {
         xs[i] = word_from(text, at, i);
     }
+}
+
+// Whether the list has the numbers, and whether it has the bits, that the text has from `at` on.
+pub fn same_numbers(text: &[u8], at: usize, xs: &[usize]) -> bool
+    ensures { λ r. ⌜ r ≡ sameNumbers (now (text .entry)) at (now (xs .entry)) ⌝ }
+{
+    let n = xs.len();
+    for i in 0..n {
+        if xs[i] != word_from(text, at, i) as usize {
+            return false;
+        }
+    }
+    true
+}
+
+pub fn same_doubles(text: &[u8], at: usize, xs: &[f64]) -> bool
+    ensures { λ r. ⌜ r ≡ sameDoubles (now (text .entry)) at (now (xs .entry)) ⌝ }
+{
+    let n = xs.len();
+    for i in 0..n {
+        if bits::bits_of(xs[i]) != word_from(text, at, i) {
+            return false;
+        }
+    }
+    true
 }
 
 // The doubles at the front of a working list that a call over m names leaves zero.
@@ -140,27 +144,73 @@ pub fn front(m: usize) -> usize
     8 * (m * m) + 256 * m
 }
 
-// What a working list has at i after a call that leaves its front zero: +0 there, and 7.0, as it was lent, behind.
-fn left_at(i: usize, front: usize) -> u64
-    ensures { λ r. ⌜ r ≡ leftAt front i ⌝ }
+// The whole numbers there.
+fn numbers_front(m: usize) -> usize
+    ensures { λ r. ⌜ r ≡ numbersFrontOf m ⌝ }
+{
+    if m > 256 {
+        return 0;
+    }
+    320 * m
+}
+
+// What a working list has at i after a call that leaves its front zero: 0 there, and what it was lent with behind.
+fn left_at(i: usize, front: usize, lent: u64) -> u64
+    ensures { λ r. ⌜ r ≡ leftAt front lent i ⌝ }
 {
     if i < front {
         return 0;
     }
-    0x401c_0000_0000_0000
+    lent
 }
 
-// Whether the front of a working list is +0 and the rest as it was lent.
-pub fn left_right(floats: &[f64], front: usize) -> bool
+// Whether the front of a working list is +0 and the rest 7.0, as it was lent.
+pub fn left_doubles(floats: &[f64], front: usize) -> bool
     ensures { λ r. ⌜ r ≡ leftDoubles (now (floats .entry)) front ⌝ }
 {
     let n = floats.len();
     for i in 0..n {
-        if bits_of(floats[i]) != left_at(i, front) {
+        if bits::bits_of(floats[i]) != left_at(i, front, 0x401c_0000_0000_0000) {
             return false;
         }
     }
     true
+}
+
+// The same of whole numbers: 0, and the rest 999.
+fn left_numbers(numbers: &[usize], front: usize) -> bool
+    ensures { λ r. ⌜ r ≡ leftNumbers (now (numbers .entry)) front ⌝ }
+{
+    let n = numbers.len();
+    for i in 0..n {
+        if numbers[i] as u64 != left_at(i, front, 999) {
+            return false;
+        }
+    }
+    true
+}
+
+// Whether both working lists are so after a call over m names; 0 for a call that keeps them.
+pub fn left_lists(m: usize, floats: &[f64], numbers: &[usize]) -> bool
+    ensures { λ r. ⌜ r ≡ leftLists m (now (floats .entry)) (now (numbers .entry)) ⌝ }
+{
+    if !left_doubles(floats, front(m)) {
+        return false;
+    }
+    left_numbers(numbers, numbers_front(m))
+}
+
+// How many names the zero fronts are measured by: n, or 0 where every list is kept.
+pub fn names_wiped(number: usize, n: usize) -> usize
+    ensures { λ r. ⌜ r ≡ namesWiped number n ⌝ }
+{
+    if n > 256 {
+        return 0;
+    }
+    match number {
+        0 | 3 | 7 | 8 | 9 => n,
+        _ => 0,
+    }
 }
 
 // The next three and `summary` only print.
@@ -173,26 +223,32 @@ fn print_number(n: u64, after: &[u8]) {
     print(after);
 }
 
-// Names a case that differs by its place and leaf.
-fn report(at: usize, leaf: u64) {
-    print(b"differs: case at word ");
-    print_number(at as u64, b", leaf ");
-    print_number(leaf, b"\n");
+// Names a case that differs by its place, a word's or a byte's, and its kind.
+fn report(at: usize, kind: u64) {
+    print(b"differs: case at ");
+    print_number(at as u64, b", kind ");
+    print_number(kind, b"\n");
 }
 
 // 0 for a case that is answered as expected, and 1 for one that differs, which it then reports.
-pub fn differs(right: bool, at: usize, leaf: u64) -> u64
+pub fn differs(right: bool, at: usize, kind: u64) -> u64
     ensures { λ r. ⌜ (r ≡ cond right 0 1) × (r ≤ 1) ⌝ }
 {
     if right {
         return 0;
     }
-    report(at, leaf);
+    report(at, kind);
     1
 }
 
-// Prints how many cases ran, and how many of them differed.
-pub fn summary(cases: u64, differ: u64) {
-    print_number(cases, b" cases, ");
-    print_number(differ, b" differ\n");
+// How many cases ran, and how many of them differed.
+pub struct Counts {
+    pub cases: u64,
+    pub differ: u64,
+}
+
+// Prints both.
+pub fn summary(counts: Counts) {
+    print_number(counts.cases, b" cases, ");
+    print_number(counts.differ, b" differ\n");
 }

@@ -2,7 +2,7 @@ use mathlib.Core.Path.{sym}
 use native.Mathlib.Omega.{arith}
 use lib.Seq.{length-take-le}
 use borrow.Author.Needs.{needs}
-use Rattle.words.proofs.Refilled.{refilled}
+use Rattle.lists.proofs.Refilled.{refilled}
 use Rattle.examples.proofs.numbers_at.Statement.{statement}
 use Rattle.examples.proofs.numbers_at.Tie as tie
 

@@ -3,8 +3,7 @@ use native.Mathlib.Omega.{arith}
 use lib.Seq.{length-take-le}
 use borrow.Author.Needs.{needs}
 use Rattle.lists.specs.Lists.{numbers}
-use Rattle.words.proofs.Refilled.{refilled, refilled-front}
-use Rattle.replay.proofs.Laws.{buffer-length}
+use Rattle.lists.proofs.Refilled.{buffer-length, refilled, refilled-front}
 use Rattle.replay.proofs.centres_at.Statement.{statement}
 use Rattle.replay.proofs.centres_at.Tie as tie
 

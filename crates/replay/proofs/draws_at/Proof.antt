@@ -2,7 +2,7 @@ use mathlib.Core.Path.{sym}
 use native.Mathlib.Omega.{arith}
 use lib.Seq.{length-take-le}
 use borrow.Author.Needs.{needs}
-use Rattle.words.proofs.Refilled.{refilled, refilled-front}
+use Rattle.lists.proofs.Refilled.{refilled, refilled-front}
 use Rattle.replay.proofs.draws_at.Statement.{statement}
 use Rattle.replay.proofs.draws_at.Tie as tie
 

@@ -2,8 +2,9 @@ use mathlib.Core.Path.{sym}
 use native.Mathlib.Omega.{arith}
 use lib.Seq.{length-take-le}
 use borrow.Author.Needs.{needs}
-use Rattle.replay.specs.Cases.{seven}
-use Rattle.replay.proofs.Laws.{buffer-front, buffer-length, lent}
+use Rattle.words.specs.Words.{seven}
+use Rattle.lists.proofs.Refilled.{buffer-front, buffer-length}
+use Rattle.replay.proofs.Laws.{lent}
 use Rattle.replay.proofs.right_list.Statement.{statement}
 use Rattle.replay.proofs.right_list.Tie as tie
 

@@ -1,15 +1,16 @@
 use Prim.Native.Nat.{_-_, _/_, _≤_}
-use mathlib.Core.Path.{_≡_, refl}
-use mathlib.Core.Bool.{not}
+use mathlib.Core.Path.{_≡_, refl, _∙_, ap}
 use native.Mathlib.Omega.{arith}
 use lib.ListN.{length}
 use lib.Dec.{leb}
 use borrow.Author.Needs.{needs}
-use Rattle.lists.specs.Sums.{countIf, foldIf}
+use Rattle.lists.specs.Sums.{foldIf}
 use Rattle.lists.specs.Lists.{firstTo}
-use Rattle.replay.specs.Cases.{rightAt, startOf}
+use Rattle.replay.specs.Cases.{casesIn, differIn, rightAt, startOf}
 use Rattle.lists.proofs.First.{first-more}
-use Rattle.replay.proofs.Laws.{all-counted, cases-are, differ-more, not-ended, start-more}
+use Rattle.words.specs.Words.{differBy}
+use Rattle.words.proofs.Counting.{cases-are, differ-more, not-ended}
+use Rattle.replay.proofs.Laws.{right-at, start-more}
 use Rattle.replay.proofs.run.Statement.{statement}
 use Rattle.replay.proofs.run.Tie as tie
 
@@ -23,7 +24,7 @@ Inv-loop text words at₀ cases₀ differ₀ at cases differ =
     × (differ ≤ cases)
     × (at ≡ startOf text cases)
     × (firstTo (λ j. leb (length text / 17) (startOf text j)) cases ≡ cases)
-    × (differ ≡ countIf (λ k. not (rightAt text k)) cases)
+    × (differ ≡ differBy (rightAt text) cases)
 
 abbrev μ-loop : tie.MeasureT-loop
 μ-loop text words at₀ cases₀ differ₀ at cases differ = words - at
@@ -59,13 +60,14 @@ loop-less c = search needs
 loop-again : tie.Need-loop-again Inv-loop μ-loop
 loop-again c =
     let i = c .before .before .before .before .before .before .loop .inv in
-    (i .0, i .1, search needs, search needs, omega arith, search needs, start-more _ _ (i .6) (c .before .before .before .before .read-case .ensures .0), first-more _ _ (i .7) (not-ended _ _ (i .6) (search needs)), differ-more _ _ (i .6) (c .before .before .before .before .read-case .ensures .0) (c .before .before .before .right-case .ensures) (c .before .before .differs .ensures .0) (i .8))
+    (i .0, i .1, search needs, search needs, omega arith, search needs, start-more _ _ (i .6) (c .before .before .before .before .read-case .ensures .0), first-more _ _ (i .7) (not-ended _ _ (i .6) (search needs)), differ-more (rightAt _) _ (right-at _ _ (i .6) (c .before .before .before .before .read-case .ensures .0) (c .before .before .before .right-case .ensures)) (c .before .before .differs .ensures .0) (i .8))
 
 returns : tie.Need-returns Inv-loop μ-loop
+unfolding casesIn differIn
 returns c =
     let i = c .before .loop .inv in
-    let e = cases-are (c .before .before .before .args .text .now) (i .0) (i .6) (i .7) (c .loop-test .left) (i .4) in
-    (e, all-counted _ e (i .8))
+    let e = cases-are (startOf (c .before .before .before .args .text .now)) (i .6) (i .7) (c .loop-test .left) (i .4) in
+    (e, i .8 ∙ ap (differBy (rightAt (c .before .before .before .args .text .now))) e)
 
 pub run-spec : {M : Type 1} → statement M
 run-spec =

@@ -5,7 +5,8 @@ use lib.ListN.{length, length-set}
 use borrow.Author.Needs.{needs}
 use lib.Ieee.{nan}
 use Rattle.lists.proofs.Listed.{writes, writes-one, writes-done}
-use Rattle.words.specs.Words.{wordFrom, doubleOf}
+use Rattle.bits.specs.Bits.{doubleOf}
+use Rattle.words.specs.Words.{wordFrom}
 use Rattle.words.proofs.doubles.Statement.{statement}
 use Rattle.words.proofs.doubles.Tie as tie
 

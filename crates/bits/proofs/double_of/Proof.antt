@@ -1,7 +1,7 @@
 use borrow.Author.Needs.{needs}
-use Rattle.words.proofs.Patterns.{not-above, above}
-use Rattle.words.proofs.double_of.Statement.{statement}
-use Rattle.words.proofs.double_of.Tie as tie
+use Rattle.bits.proofs.Patterns.{not-above, above}
+use Rattle.bits.proofs.double_of.Statement.{statement}
+use Rattle.bits.proofs.double_of.Tie as tie
 
 returns : tie.Need-returns
 returns c = above (c .before .args .bits) (c .if1 .taken)

@@ -7,18 +7,17 @@ use lib.ListN.{length}
 use lib.Dec.{eqb}
 use borrow.Author.Needs.{needs}
 use Rattle.lists.specs.Sums.{allTo}
-use Rattle.words.specs.Words.{wordFrom}
-use Rattle.replay.specs.Cases.{sameNumbers}
+use Rattle.words.specs.Words.{sameNumbers, wordFrom}
 use Rattle.lists.proofs.Sums.{all-fails, all-more}
 use Rattle.words.proofs.Values.{differ-at, same-at}
-use Rattle.replay.proofs.same_numbers.Statement.{statement}
-use Rattle.replay.proofs.same_numbers.Tie as tie
+use Rattle.words.proofs.same_numbers.Statement.{statement}
+use Rattle.words.proofs.same_numbers.Tie as tie
 
 abbrev Inv-loop : tie.InvT-loop
-Inv-loop text expected xs n i₀ i = (n ≡ length xs) × (i ≤ n) × (allTo (λ k. eqb (list.numbers xs k) (wordFrom text expected (k + 3))) i ≡ true)
+Inv-loop text at xs n i₀ i = (n ≡ length xs) × (i ≤ n) × (allTo (λ k. eqb (list.numbers xs k) (wordFrom text at k)) i ≡ true)
 
 abbrev μ-loop : tie.MeasureT-loop
-μ-loop text expected xs n i₀ i = n - i
+μ-loop text at xs n i₀ i = n - i
 
 loop-holds : tie.Need-loop-holds Inv-loop μ-loop
 unfolding allTo
@@ -29,9 +28,6 @@ mul-if1 c = omega arith
 
 shared-slice-read-if1 : tie.Need-shared-slice-read-if1 Inv-loop μ-loop
 shared-slice-read-if1 c = omega arith
-
-add-word-from : tie.Need-add-word-from Inv-loop μ-loop
-add-word-from c = omega arith
 
 word-from-requires : tie.Need-word-from-requires Inv-loop μ-loop
 word-from-requires c κs = search needs
@@ -62,7 +58,6 @@ same-numbers-spec =
     loop-holds
     mul-if1
     shared-slice-read-if1
-    add-word-from
     word-from-requires
     returns
     add-i

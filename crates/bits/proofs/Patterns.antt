@@ -19,7 +19,7 @@ is-nan (inf s) h = absurd (subst T (sym h) tt)
 is-nan (fin s m e) h = absurd (subst T (sym h) tt)
 
 -- 0 over 0, which is the NaN
-quotient : div binary64 (ofBits binary64 0) (ofBits binary64 0) ≡ nan
+pub quotient : div binary64 (ofBits binary64 0) (ofBits binary64 0) ≡ nan
 unfolding ofBits div
 quotient = refl
 
@@ -27,10 +27,11 @@ quotient = refl
 pub above : (n : ℕ) → 0x7ff0_0000_0000_0000 < n % 0x8000_0000_0000_0000 → div binary64 (ofBits binary64 0) (ofBits binary64 0) ≡ ofBits binary64 n
 above n h = quotient ∙ is-nan (ofBits binary64 n) (sym (nanBits-is binary64 n) ∙ nanBits-above binary64 n ∙ lt-ltb _ _ h)
 
-nan-bits : 0x7ff8_0000_0000_0000 ≡ toBits binary64 nan
+-- the pattern of the NaN
+pub nan-bits : 0x7ff8_0000_0000_0000 ≡ toBits binary64 nan
 unfolding toBits
 nan-bits = refl
 
--- the pattern of a NaN
+-- the pattern of whatever differs from itself
 pub bits-nan : (x : Float) → ne x x ≡ true → 0x7ff8_0000_0000_0000 ≡ toBits binary64 x
 bits-nan x h = rw (← is-nan x (sym (ne-self x) ∙ h)) nan-bits

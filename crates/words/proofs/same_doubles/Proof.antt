@@ -9,15 +9,16 @@ use Rattle.lists.specs.Lists.{cells}
 use Rattle.lists.specs.Sums.{allTo}
 use Rattle.lists.proofs.Sums.{all-more, all-fails}
 use Rattle.words.proofs.Values.{differ-at, same-at}
-use Rattle.words.specs.Words.{bitsOf, leftAt, leftDoubles}
-use Rattle.words.proofs.left_right.Statement.{statement}
-use Rattle.words.proofs.left_right.Tie as tie
+use Rattle.bits.specs.Bits.{bitsOf}
+use Rattle.words.specs.Words.{sameDoubles, wordFrom}
+use Rattle.words.proofs.same_doubles.Statement.{statement}
+use Rattle.words.proofs.same_doubles.Tie as tie
 
 abbrev Inv-loop : tie.InvT-loop
-Inv-loop floats front n i₀ i = (n ≡ length floats) × (i ≤ n) × (allTo (λ k. eqb (bitsOf (cells floats k)) (leftAt front k)) i ≡ true)
+Inv-loop text at xs n i₀ i = (n ≡ length xs) × (i ≤ n) × (allTo (λ k. eqb (bitsOf (cells xs k)) (wordFrom text at k)) i ≡ true)
 
 abbrev μ-loop : tie.MeasureT-loop
-μ-loop floats front n i₀ i = n - i
+μ-loop text at xs n i₀ i = n - i
 
 loop-holds : tie.Need-loop-holds Inv-loop μ-loop
 unfolding allTo
@@ -32,12 +33,12 @@ shared-slice-read-bits-of c = omega arith
 bits-of-requires : tie.Need-bits-of-requires Inv-loop μ-loop
 bits-of-requires c κs = search needs
 
-left-at-requires : tie.Need-left-at-requires Inv-loop μ-loop
-left-at-requires c κs = search needs
+word-from-requires : tie.Need-word-from-requires Inv-loop μ-loop
+word-from-requires c κs = search needs
 
 returns : tie.Need-returns Inv-loop μ-loop
-unfolding leftDoubles
-returns c = all-fails _ _ (c .before .before .before .before .before .loop .i) (omega arith) (differ-at (c .before .before .bits-of .ensures) (c .before .left-at .ensures) (c .if1 .taken))
+unfolding sameDoubles
+returns c = all-fails _ _ (c .before .before .before .before .before .loop .i) (omega arith) (differ-at (c .before .before .bits-of .ensures) (c .before .word-from .ensures) (c .if1 .taken))
 
 add-i : tie.Need-add-i Inv-loop μ-loop
 add-i c = omega arith
@@ -46,14 +47,14 @@ loop-less : tie.Need-loop-less Inv-loop μ-loop
 loop-less c = omega arith
 
 loop-again : tie.Need-loop-again Inv-loop μ-loop
-loop-again c = (refl, omega arith, all-more _ _ (c .before .before .before .before .before .loop .inv .2) (same-at (c .before .before .bits-of .ensures) (c .before .left-at .ensures) (c .if1 .left)))
+loop-again c = (refl, omega arith, all-more _ _ (c .before .before .before .before .before .loop .inv .2) (same-at (c .before .before .bits-of .ensures) (c .before .word-from .ensures) (c .if1 .left)))
 
 returns-2 : tie.Need-returns-2 Inv-loop μ-loop
-unfolding leftDoubles
-returns-2 c = let e : c .before .loop .i ≡ length (c .before .before .before .args .floats .now) = omega arith in sym (rw e at (c .before .loop .inv .2))
+unfolding sameDoubles
+returns-2 c = let e : c .before .loop .i ≡ length (c .before .before .before .before .args .xs .now) = omega arith in sym (rw e at (c .before .loop .inv .2))
 
-pub left-right-spec : {M : Type 1} → statement M
-left-right-spec =
+pub same-doubles-spec : {M : Type 1} → statement M
+same-doubles-spec =
     tie.close
     (tie.spec
     Inv-loop
@@ -62,7 +63,7 @@ left-right-spec =
     mul-bits-of
     shared-slice-read-bits-of
     bits-of-requires
-    left-at-requires
+    word-from-requires
     returns
     add-i
     loop-less

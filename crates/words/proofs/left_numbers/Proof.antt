@@ -7,14 +7,14 @@ use lib.ListN.{length}
 use lib.Dec.{eqb}
 use borrow.Author.Needs.{needs}
 use Rattle.lists.specs.Sums.{allTo}
-use Rattle.replay.specs.Cases.{leftAt, leftNumbers}
+use Rattle.words.specs.Words.{leftAt, leftNumbers}
 use Rattle.lists.proofs.Sums.{all-fails, all-more}
 use Rattle.words.proofs.Values.{differ-at, same-at}
-use Rattle.replay.proofs.left_numbers.Statement.{statement}
-use Rattle.replay.proofs.left_numbers.Tie as tie
+use Rattle.words.proofs.left_numbers.Statement.{statement}
+use Rattle.words.proofs.left_numbers.Tie as tie
 
 abbrev Inv-loop : tie.InvT-loop
-Inv-loop numbers front n i₀ i = (n ≡ length numbers) × (i ≤ n) × (allTo (λ k. eqb (list.numbers numbers k) (leftAt front k)) i ≡ true)
+Inv-loop numbers front n i₀ i = (n ≡ length numbers) × (i ≤ n) × (allTo (λ k. eqb (list.numbers numbers k) (leftAt front 999 k)) i ≡ true)
 
 abbrev μ-loop : tie.MeasureT-loop
 μ-loop numbers front n i₀ i = n - i

@@ -1,8 +1,8 @@
 use borrow.Author.Needs.{needs}
 use Rattle.lists.proofs.Floats.{number}
-use Rattle.words.proofs.Patterns.{bits-nan}
-use Rattle.words.proofs.bits_of.Statement.{statement}
-use Rattle.words.proofs.bits_of.Tie as tie
+use Rattle.bits.proofs.Patterns.{bits-nan}
+use Rattle.bits.proofs.bits_of.Statement.{statement}
+use Rattle.bits.proofs.bits_of.Tie as tie
 
 returns : tie.Need-returns
 returns c = bits-nan (c .before .args .x) (c .if1 .taken)
