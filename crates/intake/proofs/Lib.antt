@@ -1,0 +1,4 @@
+-- Whole.antt: tests on signed numbers. Faults.antt: the laws that the functions cite. Claim.antt: `intake-claim`, of every book.
+pub mod Whole
+pub mod Faults
+pub mod Claim

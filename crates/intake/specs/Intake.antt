@@ -1,0 +1,77 @@
+-- A book in whole millionths: proper, or the first row of the table that applies, with the first cell row by row. Definitions only.
+use Prim.Native.Nat.{ℕ, _+_, _*_, _/_, _%_}
+use mathlib.Core.Bool.{Bool, true, false, cond}
+use mathlib.Core.List.{List}
+use lib.Dec.{eqb, ltb, leb}
+use lib.ListN.{length, getD}
+use lib.IntN.{ℤ, pos, negsuc, natAbs}
+use Rattle.lists.specs.Lists.{firstTo}
+use Rattle.refusals.specs.Table.{Refusal, none, refused, when, unless, refusal, orElse}
+use Rattle.intake.specs.declared.Intake.{Intake}
+use Rattle.intake.specs.declared.Intake.the-variants.{Proper, InvalidCorrelationMatrix, TooLarge, CellCount, Range, Diagonal, Mirror}
+
+-- the table's number for each answer, 0 for a proper book; and the place of the cell, row times n plus column, 0 where no cell is named
+abbrev pub numberOf : Intake → ℕ
+numberOf Proper = 0
+numberOf InvalidCorrelationMatrix = 2
+numberOf TooLarge = 4
+numberOf CellCount = 5
+numberOf (Range t) = 21
+numberOf (Diagonal t) = 22
+numberOf (Mirror t) = 23
+
+abbrev pub placeOf : Intake → ℕ
+placeOf Proper = 0
+placeOf InvalidCorrelationMatrix = 0
+placeOf TooLarge = 0
+placeOf CellCount = 0
+placeOf (Range t) = t
+placeOf (Diagonal t) = t
+placeOf (Mirror t) = t
+
+abbrev pub refusalOf : Intake → Refusal
+refusalOf a = record { number = numberOf a; place = placeOf a }
+
+-- the millionths of 1
+abbrev pub million : ℕ
+million = 1000000
+
+-- the cell at place t
+abbrev pub cellOf : List ℤ → ℕ → ℤ
+cellOf cells t = getD cells t (pos 0)
+
+-- whether two whole numbers are the same
+unfoldable pub sameZ : ℤ → ℤ → Bool
+sameZ (pos a) (pos b) = eqb a b
+sameZ (pos a) (negsuc b) = false
+sameZ (negsuc a) (pos b) = false
+sameZ (negsuc a) (negsuc b) = eqb a b
+
+-- whether a cell is within -1,000,000 and 1,000,000
+unfoldable pub inRange : ℤ → Bool
+inRange x = leb (natAbs x) million
+
+-- whether a cell is 1,000,000, if it is on the diagonal
+unfoldable pub onDiagonal : ℤ → Bool → Bool
+onDiagonal x true = sameZ x (pos million)
+onDiagonal x false = true
+
+-- the cause of a cell x with the mirror y: 21 range, 22 diagonal, 23 mirror, in that order; 0 for none
+unfoldable pub causeOf : ℤ → ℤ → Bool → ℕ
+causeOf x y diagonal = cond (inRange x) (cond (onDiagonal x diagonal) (cond (sameZ x y) 0 23) 22) 21
+
+-- the cause at place t of a book of n names: row t / n, column t % n; its mirror has the two exchanged
+unfoldable pub causeAt : List ℤ → ℕ → ℕ → ℕ
+causeAt cells n t = causeOf (cellOf cells t) (cellOf cells (t % n * n + t / n)) (eqb (t / n) (t % n))
+
+-- the first place with a cause, row by row, and n * n where there is none
+unfoldable pub firstFault : List ℤ → ℕ → ℕ
+firstFault cells n = firstTo (λ t. ltb 0 (causeAt cells n t)) (n * n)
+
+-- what it gives: that cause and that place
+unfoldable pub faultOf : List ℤ → ℕ → Refusal
+faultOf cells n = when (ltb (firstFault cells n) (n * n)) (record { number = causeAt cells n (firstFault cells n); place = firstFault cells n }) none
+
+-- the answer for a book of so many rows and columns: 2, 4 and 5 by its shape, then its cells
+unfoldable pub intakeOf : List ℤ → ℕ → ℕ → Refusal
+intakeOf cells rows cols = orElse (unless (eqb rows cols) (refused 2) (refusal (length cells) rows rows true 0 0)) (faultOf cells rows)

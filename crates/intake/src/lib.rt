@@ -1,0 +1,153 @@
+// The check of a book in whole millionths, before anything is worked out from it.
+ghost use Prim.Native.Nat.{_*_, _<_, _≤_};
+ghost use mathlib.Core.Path.{_≡_};
+ghost use lib.ListN.{length};
+ghost use Rattle.intake.specs.Intake.{numberOf, placeOf, refusalOf, sameZ, inRange, onDiagonal, causeOf, causeAt, firstFault, faultOf, intakeOf};
+
+// A proper book, or the first row of the table that applies. The last three hold the cell's place, row times n plus column.
+pub enum Intake {
+    Proper,
+    InvalidCorrelationMatrix,
+    TooLarge,
+    CellCount,
+    Range(usize),
+    Diagonal(usize),
+    Mirror(usize),
+}
+
+// The table's number; 0 for a proper book.
+pub fn number_of(a: Intake) -> usize
+    ensures { λ r. ⌜ r ≡ numberOf a ⌝ }
+{
+    match a {
+        Intake::Proper => 0,
+        Intake::InvalidCorrelationMatrix => 2,
+        Intake::TooLarge => 4,
+        Intake::CellCount => 5,
+        Intake::Range(_t) => 21,
+        Intake::Diagonal(_t) => 22,
+        Intake::Mirror(_t) => 23,
+    }
+}
+
+// The table's place; 0 where it names none.
+pub fn place_of(a: Intake) -> usize
+    ensures { λ r. ⌜ r ≡ placeOf a ⌝ }
+{
+    match a {
+        Intake::Proper => 0,
+        Intake::InvalidCorrelationMatrix => 0,
+        Intake::TooLarge => 0,
+        Intake::CellCount => 0,
+        Intake::Range(t) => t,
+        Intake::Diagonal(t) => t,
+        Intake::Mirror(t) => t,
+    }
+}
+
+// Whether two cells are the same number.
+fn same(x: i64, y: i64) -> bool
+    ensures { λ r. ⌜ r ≡ sameZ x y ⌝ }
+{
+    x == y
+}
+
+// Whether a cell is within -1,000,000 and 1,000,000.
+fn in_range(x: i64) -> bool
+    ensures { λ r. ⌜ r ≡ inRange x ⌝ }
+{
+    if x < -1000000 {
+        return false;
+    }
+    x <= 1000000
+}
+
+// Whether a cell may stand on the diagonal, if it does.
+fn on_diagonal(x: i64, diagonal: bool) -> bool
+    ensures { λ r. ⌜ r ≡ onDiagonal x diagonal ⌝ }
+{
+    if diagonal {
+        return same(x, 1000000);
+    }
+    true
+}
+
+// The cause for which a cell x with the mirror y is turned away, and 0 where there is none.
+fn cause_of(x: i64, y: i64, diagonal: bool) -> usize
+    ensures { λ r. ⌜ r ≡ causeOf x y diagonal ⌝ }
+{
+    if !in_range(x) {
+        return 21;
+    }
+    if !on_diagonal(x, diagonal) {
+        return 22;
+    }
+    if same(x, y) {
+        return 0;
+    }
+    23
+}
+
+// The cause at place t of a book of n names.
+fn cause_at(cells: &[i64], n: usize, t: usize) -> usize
+    requires { ⌜ (n ≤ 256) × (length (now cells) ≡ n * n) × (t < n * n) ⌝ }
+    ensures { λ r. ⌜ r ≡ causeAt (now (cells .entry)) n t ⌝ }
+{
+    let i = t / n;
+    let j = t % n;
+    let x = cells[t];
+    let y = cells[j * n + i];
+    cause_of(x, y, i == j)
+}
+
+// The first place with a cause, row by row, and n * n where there is none.
+fn first_fault(cells: &[i64], n: usize) -> usize
+    requires { ⌜ (n ≤ 256) × (length (now cells) ≡ n * n) ⌝ }
+    ensures { λ r. ⌜ r ≡ firstFault (now (cells .entry)) n ⌝ }
+{
+    let count = n * n;
+    for t in 0..count {
+        if cause_at(cells, n, t) != 0 {
+            return t;
+        }
+    }
+    count
+}
+
+// The answer for the cells of a book of n names.
+fn check_cells(cells: &[i64], n: usize) -> Intake
+    requires { ⌜ (n ≤ 256) × (length (now cells) ≡ n * n) ⌝ }
+    ensures { λ r. ⌜ refusalOf r ≡ faultOf (now (cells .entry)) n ⌝ }
+{
+    let t = first_fault(cells, n);
+    if t >= n * n {
+        return Intake::Proper;
+    }
+    let cause = cause_at(cells, n, t);
+    if cause == 21 {
+        return Intake::Range(t);
+    }
+    if cause == 22 {
+        return Intake::Diagonal(t);
+    }
+    Intake::Mirror(t)
+}
+
+// Whether a book of so many rows and columns, its cells in whole millionths row by row, is proper; if not, why and where.
+pub fn check_book(cells: &[i64], rows: usize, cols: usize) -> Intake
+    ensures { λ r. ⌜ refusalOf r ≡ intakeOf (now (cells .entry)) rows cols ⌝ }
+{
+    if rows != cols {
+        return Intake::InvalidCorrelationMatrix;
+    }
+    if rows < 2 {
+        return Intake::InvalidCorrelationMatrix;
+    }
+    if rows > 256 {
+        return Intake::TooLarge;
+    }
+    if cells.len() != rows * rows {
+        return Intake::CellCount;
+    }
+    check_cells(cells, rows)
+}
