@@ -1,0 +1,175 @@
+// What the grouping program prints for the text that it reads.
+ghost use mathlib.Core.Path.{_≡_};
+ghost use Prim.Native.Nat.{_*_, _≤_};
+ghost use lib.ListN.{length, take, replicate};
+ghost use Rattle.partition.specs.Orders.{Sized, cut};
+ghost use Rattle.partition.specs.Partition.{labelOf};
+ghost use Rattle.lists.specs.Lists.{listed};
+ghost use Rattle.lists.specs.Sums.{zero64};
+ghost use Rattle.answer_text.specs.Answer.{groupedText, refusalFits, numberOf, bytesOf, writtenOf};
+ghost use Rattle.grouping_text.specs.Program.{bookText, programOf};
+use answer_text::Written;
+use request_text::Request;
+
+// Lists for 12 names. Each comes from a function: a literal array would stand in every goal, cell by cell.
+fn cell_list() -> [f64; 144]
+    ensures { λ r. ⌜ r ≡ replicate 144 zero64 ⌝ }
+{
+    [0.0; 144]
+}
+
+fn draw_list() -> [u64; 1024]
+    ensures { λ r. ⌜ r ≡ replicate 1024 0 ⌝ }
+{
+    [0; 1024]
+}
+
+fn name_list() -> [usize; 12]
+    ensures { λ r. ⌜ 12 ≡ length r ⌝ }
+{
+    [0; 12]
+}
+
+fn score_list() -> [f64; 12]
+    ensures { λ r. ⌜ 12 ≡ length r ⌝ }
+{
+    [0.0; 12]
+}
+
+fn working_doubles() -> [f64; 4224]
+    ensures { λ r. ⌜ 4224 ≡ length r ⌝ }
+{
+    [0.0; 4224]
+}
+
+fn working_numbers() -> [usize; 3840]
+    ensures { λ r. ⌜ 3840 ≡ length r ⌝ }
+{
+    [0; 3840]
+}
+
+// The label of each name, in front of a list for 12 names, from the order and the sizes of the groups.
+fn labels_of(order: &[usize], sizes: &[usize], groups: usize) -> [usize; 12]
+    requires { ⌜ (length (now order) ≤ 12) × Sized (length (now order)) groups (now order) (now sizes) ⌝ }
+    ensures { λ r. ⌜ (12 ≡ length r) × (take (length (now (order .entry))) r ≡ listed (labelOf (cut groups (now (sizes .entry)) (now (order .entry)))) (length (now (order .entry)))) ⌝ }
+{
+    let n = order.len();
+    let mut labels = name_list();
+    partition::labels_from_clusters(order, sizes, groups, &mut labels[..n]);
+    labels
+}
+
+// Writes a grouping by the order and the sizes of its groups.
+fn write_groups(
+    groups: usize,
+    draws: usize,
+    order: &[usize],
+    sizes: &[usize],
+    scores: &[f64],
+    out: &mut [u8],
+) -> Written
+    requires { ⌜ (length (now order) ≤ 12) × Sized (length (now order)) groups (now order) (now sizes) × (length (now scores) ≡ length (now order)) ⌝ }
+    ensures { λ r. ⌜ record { number = numberOf r; count = bytesOf r; out = now (out .exit) }
+        ≡ writtenOf (refusalFits (now (out .entry)))
+        (groupedText groups draws (listed (labelOf (cut groups (now (sizes .entry)) (now (order .entry)))) (length (now (order .entry)))) (now (scores .entry))) (now (out .entry)) ⌝ }
+{
+    let n = order.len();
+    let labels = labels_of(order, sizes, groups);
+    answer_text::write_grouping(groups, draws, &labels[..n], scores, out)
+}
+
+// Groups a book of n names with the outputs and the lists to work in, and writes the answer.
+fn group_with(
+    book: &[f64],
+    n: usize,
+    repeats: usize,
+    draws: &[u64],
+    order: &mut [usize],
+    sizes: &mut [usize],
+    scores: &mut [f64],
+    ordered: &mut [f64],
+    floats: &mut [f64],
+    numbers: &mut [usize],
+    out: &mut [u8],
+) -> Written
+    requires { ⌜ (n ≤ 12) × (length (now book) ≡ n * n) × (length (now order) ≡ n) × (length (now sizes) ≡ n) × (length (now scores) ≡ n) × (length (now ordered) ≡ n * n)
+        × (4224 ≤ length (now floats)) × (3840 ≤ length (now numbers)) ⌝ }
+    ensures { λ r. ⌜ record { number = numberOf r; count = bytesOf r; out = now (out .exit) }
+        ≡ writtenOf (refusalFits (now (out .entry))) (bookText n repeats (now (book .entry)) (now (draws .entry))) (now (out .entry)) ⌝ }
+{
+    let a = onc::get_onc_clusters_with_draws(
+        book,
+        n,
+        n,
+        repeats,
+        draws,
+        order,
+        sizes,
+        scores,
+        ordered,
+        floats,
+        numbers,
+    );
+    let number = onc::number_of(a);
+    if number != 0 {
+        return answer_text::write_refusal(number, onc::place_of(a), out);
+    }
+    write_groups(
+        onc::groups_of(a),
+        onc::read_of(a),
+        order,
+        sizes,
+        scores,
+        out,
+    )
+}
+
+// Groups a book of at most 12 names and writes the answer.
+fn group(book: &[f64], n: usize, repeats: usize, draws: &[u64], out: &mut [u8]) -> Written
+    requires { ⌜ (n ≤ 12) × (length (now book) ≡ n * n) ⌝ }
+    ensures { λ r. ⌜ record { number = numberOf r; count = bytesOf r; out = now (out .exit) }
+        ≡ writtenOf (refusalFits (now (out .entry))) (bookText n repeats (now (book .entry)) (now (draws .entry))) (now (out .entry)) ⌝ }
+{
+    let mut order = name_list();
+    let mut sizes = name_list();
+    let mut scores = score_list();
+    let mut ordered = cell_list();
+    let mut floats = working_doubles();
+    let mut numbers = working_numbers();
+    let size = n * n;
+    group_with(
+        book,
+        n,
+        repeats,
+        draws,
+        &mut order[..n],
+        &mut sizes[..n],
+        &mut scores[..n],
+        &mut ordered[..size],
+        &mut floats,
+        &mut numbers,
+        out,
+    )
+}
+
+// Writes what the grouping program prints for a text to the front of `out`, which has room for at least 1,024 bytes; else it is as it was.
+pub fn answer_to(text: &[u8], out: &mut [u8]) -> Written
+    ensures { λ r. ⌜ record { number = numberOf r; count = bytesOf r; out = now (out .exit) }
+        ≡ writtenOf (refusalFits (now (out .entry))) (programOf (now (text .entry))) (now (out .entry)) ⌝ }
+{
+    let mut cells = cell_list();
+    let mut draws = draw_list();
+    match request_text::read_request(text, &mut cells, &mut draws) {
+        Request::Fault => answer_text::write_refusal(11, 0, out),
+        // never: the two lists have room for every text of the layout
+        Request::ListLength => answer_text::write_refusal(6, 0, out),
+        Request::Read {
+            names,
+            repeats,
+            draws: count,
+        } => {
+            let size = names * names;
+            group(&cells[..size], names, repeats, &draws[..count], out)
+        }
+    }
+}
