@@ -1,15 +1,16 @@
 //! Compares whole runs of the proved library with the unchanged Rust. Usage: see run.sh.
-//!   grouping-harness runs [SEED] [BOOKS]   BOOKS made-up books (20000), each with several lists of draws; the status is 0 if none differs
-//!   grouping-harness stack [KIB]           a run of 256 names and 64 repeats, and one of 32 rounds, in a thread with a stack of KIB (1024)
-//!   grouping-harness time [RUNS]           both sides on the same books and draws, medians of RUNS runs (5)
-use kmeans_harness::books::{block_correlations, matrix, random_correlations, BOOKS};
+//!   compare runs [SEED] [BOOKS]   BOOKS made-up books (20000), each with several lists of draws; the status is 0 if none differs
+//!   compare stack [KIB]           a run of 256 names and 64 repeats, and one of 32 rounds, in a thread with a stack of KIB (1024)
+//!   compare time [RUNS]           both sides on the same books and draws, medians of RUNS runs (5)
+use grouping_harness::books::{made_up, pairs};
+use grouping_harness::call::{bits, by_rust, expected, silence, Answer, Call};
+use kmeans_harness::books::{block_correlations, matrix};
 use kmeans_harness::leaf::{floats_for, numbers_for};
 use kmeans_harness::lent::Lent;
 use kmeans_harness::random::Random;
-use openquant::onc::{get_onc_clusters_with_seed, OncError};
-use rand::{install, Control, Signal, Source};
+use openquant::onc::get_onc_clusters_with_seed;
+use rand::{install, Control, Source};
 use std::collections::BTreeMap;
-use std::panic::{catch_unwind, AssertUnwindSafe};
 use std::time::Instant;
 
 extern "C" {
@@ -36,103 +37,6 @@ extern "C" {
         answer: *mut usize,
         answer_len: usize,
     ) -> usize;
-}
-
-/// A call: a book, its sizes, repeats and draws, and the lengths of the lists that are lent: order, sizes, scores, ordered, floats, numbers, answer.
-#[derive(Clone)]
-struct Call {
-    book: Vec<f64>,
-    rows: usize,
-    cols: usize,
-    repeat: usize,
-    draws: Vec<u64>,
-    lent: [usize; 7],
-}
-
-impl Call {
-    fn proper(book: Vec<f64>, n: usize, repeat: usize, draws: Vec<u64>) -> Call {
-        let lent = [n, n, n, n * n, floats_for(n), numbers_for(n), 4];
-        Call { book, rows: n, cols: n, repeat, draws, lent }
-    }
-}
-
-/// What a call gives: number, place, groups, draws read; the outputs of a grouping, doubles as their bits; whether the working lists are wiped.
-struct Answer {
-    told: [usize; 4],
-    outputs: Option<[Vec<u64>; 4]>,
-    wiped: bool,
-}
-
-fn refusal(number: usize, place: usize, wiped: bool) -> Answer {
-    Answer { told: [number, place, 0, 0], outputs: None, wiped }
-}
-
-/// The bits of a double, all NaNs as one.
-fn bits(x: f64) -> u64 {
-    if x.is_nan() {
-        f64::NAN.to_bits()
-    } else {
-        x.to_bits()
-    }
-}
-
-/// The unchanged Rust on a book, with draws from the source and at most 32 rounds.
-fn by_rust(book: &[f64], n: usize, repeat: usize, source: Source, seed: u64) -> (Answer, Control) {
-    let rows = matrix(book, n);
-    install(Control::new(source, repeat as u64, 32));
-    let run = catch_unwind(AssertUnwindSafe(|| get_onc_clusters_with_seed(&rows, repeat, seed)));
-    let control = install(Control::plain());
-    let answer = match run {
-        Ok(Ok(found)) => {
-            let order: Vec<u64> = found.clusters.values().flatten().map(|&i| i as u64).collect();
-            let mut sizes: Vec<u64> = found.clusters.values().map(|g| g.len() as u64).collect();
-            sizes.resize(n, 0);
-            let scores = found.silhouette_scores.iter().map(|&x| bits(x)).collect();
-            let m = &found.ordered_correlation;
-            let ordered = (0..n * n).map(|c| bits(m[(c / n, c % n)])).collect();
-            let groups = found.clusters.len();
-            Answer { told: [0, 0, groups, control.taken as usize], outputs: Some([order, sizes, scores, ordered]), wiped: true }
-        }
-        Ok(Err(OncError::ClusteringFailed)) => refusal(3, 0, true),
-        Ok(Err(e)) => panic!("the Rust ended with {e:?}"),
-        Err(payload) => match payload.downcast::<Signal>().map(|s| *s) {
-            Ok(Signal::Short { read }) => refusal(7, read as usize, true),
-            Ok(Signal::Range { place }) => refusal(8, place as usize, true),
-            Ok(Signal::Rounds) => refusal(9, 0, true),
-            Ok(s) => panic!("the draws ended with {s:?}"),
-            Err(_) => panic!("the Rust panicked"),
-        },
-    };
-    (answer, control)
-}
-
-/// The rows of the table that keep every list, from the top.
-fn refused(call: &Call) -> Option<usize> {
-    let n = call.rows;
-    if call.repeat == 0 {
-        return Some(1);
-    }
-    if n != call.cols || n < 2 {
-        return Some(2);
-    }
-    if n > 256 || call.repeat > 64 {
-        return Some(4);
-    }
-    if call.book.len() != n * n {
-        return Some(5);
-    }
-    let [order, sizes, scores, ordered, floats, numbers, answer] = call.lent;
-    if [order, sizes, scores] != [n; 3] || ordered != n * n || floats < floats_for(n) || numbers < numbers_for(n) || answer != 4 {
-        return Some(6);
-    }
-    None
-}
-
-fn expected(call: &Call) -> Answer {
-    match refused(call) {
-        Some(number) => refusal(number, 0, false),
-        None => by_rust(&call.book, call.rows, call.repeat, Source::List(call.draws.clone()), 0).0,
-    }
 }
 
 /// What of a call differs, in words; nothing where all is as expected.
@@ -226,41 +130,14 @@ impl Counts {
     }
 }
 
-/// Three pairs or more: 0.875 within a pair, 0.0546875 across, 0.21875 between the second members. Its weak groups are clustered again and again.
-fn pairs(pairs: usize) -> Vec<f64> {
-    let n = 2 * pairs;
-    let cell = |i: usize, j: usize| match (i == j, i / 2 == j / 2, i % 2 == 1 && j % 2 == 1) {
-        (true, _, _) => 1.0,
-        (_, true, _) => 0.875,
-        (_, _, true) => 0.21875,
-        _ => 0.0546875,
-    };
-    (0..n * n).map(|c| cell(c / n, c % n)).collect()
-}
-
-fn made_up(r: &mut Random) -> (Vec<f64>, usize) {
+/// One book: the draws of a seeded run; the same with others behind; too few; one out of range; and lists of a wrong length.
+fn one_book(r: &mut Random, counts: &mut Counts) {
     let n = match r.below(20) {
         0 => r.from(13, 40),
         1..=6 => r.from(7, 12),
         _ => r.from(2, 6),
     };
-    let book = match r.below(8) {
-        0 => random_correlations(r, n),
-        1 | 2 => {
-            let blocks = r.from(1, n);
-            let noise = r.one_of(&[0.0, 0.01, 0.2, 0.4]);
-            block_correlations(r, n, blocks, noise)
-        }
-        3 => (0..n * n).map(|_| r.one_of(&[1.0, 0.5, 0.0, -0.5])).collect(),
-        4 if n % 2 == 0 => pairs(n / 2),
-        _ => r.one_of(&BOOKS).points(r, n),
-    };
-    (book, n)
-}
-
-/// One book: the draws of a seeded run; the same with others behind; too few; one out of range; and lists of a wrong length.
-fn one_book(r: &mut Random, counts: &mut Counts) {
-    let (book, n) = made_up(r);
+    let book = made_up(r, n);
     let repeat = r.one_of(&[1, 1, 1, 2, 3]);
     let (want, control) = by_rust(&book, n, repeat, Source::Seeded, r.bits());
     let call = Call::proper(book, n, repeat, control.draws.clone());
@@ -410,11 +287,7 @@ fn time(runs: usize) -> bool {
 }
 
 fn main() {
-    std::panic::set_hook(Box::new(|info| {
-        if !info.payload().is::<Signal>() {
-            eprintln!("{info}");
-        }
-    }));
+    silence();
     let args: Vec<String> = std::env::args().collect();
     let number = |i: usize, or: usize| args.get(i).map_or(or, |a| a.parse().unwrap());
     let right = match args[1].as_str() {

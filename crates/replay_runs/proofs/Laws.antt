@@ -1,0 +1,43 @@
+-- What is lent to a run, and the tests of what it gives and leaves. Assumes nothing.
+use Prim.Native.Nat.{ℕ, _+_}
+use mathlib.Core.Path.{_≡_, _∙_}
+use mathlib.Core.Bool.{Bool}
+use mathlib.Core.List.{List}
+use native.Mathlib.Numerals.{add-one}
+use lib.ListN.{replicate}
+use lib.Ieee.{Float}
+use Rattle.words.specs.Words.{doublesFrom, wordsFrom, seven}
+use Rattle.onc.specs.Onc.{groupOf}
+use Rattle.replay_runs.specs.declared.Case.{Case}
+use Rattle.replay_runs.specs.Runs.{caseAt, rightRun, rightLists, rightCase, startOf, rightAt}
+
+-- working lists of equal cells were lent
+module _ (text : List ℕ) (c : Case) (cells : List Float) (draws : List ℕ) where
+  pub lent-working : (order sizes : List ℕ) (scores ordered : List Float) {floats : List Float} {numbers : List ℕ} {r : Bool} → floats ≡ replicate (c .floats) seven → numbers ≡ replicate (c .numbers) 999
+      → r ≡ rightRun text c (groupOf cells (c .rows) (c .cols) (c .repeat) draws (record { order = order; sizes = sizes; scores = scores; ordered = ordered; floats = floats; numbers = numbers }))
+      → r ≡ rightRun text c (groupOf cells (c .rows) (c .cols) (c .repeat) draws (record { order = order; sizes = sizes; scores = scores; ordered = ordered; floats = replicate (c .floats) seven; numbers = replicate (c .numbers) 999 }))
+  lent-working order sizes scores ordered f n e = rw (← f, ← n) e
+
+  -- and outputs of equal cells
+  pub lent : {order sizes : List ℕ} {scores ordered : List Float} {r : Bool} → order ≡ replicate (c .order) 999 → sizes ≡ replicate (c .sizes) 999
+      → scores ≡ replicate (c .scores) seven → ordered ≡ replicate (c .ordered) seven
+      → r ≡ rightRun text c (groupOf cells (c .rows) (c .cols) (c .repeat) draws (record { order = order; sizes = sizes; scores = scores; ordered = ordered; floats = replicate (c .floats) seven; numbers = replicate (c .numbers) 999 }))
+      → r ≡ rightLists text c cells draws
+  unfolding rightLists
+  lent o s p q e = rw (← o, ← s, ← p, ← q) e
+
+-- the cells and the draws were read from the text
+pub were-read : (text : List ℕ) (at : ℕ) (c : Case) {cells : List Float} {draws : List ℕ} {r : Bool}
+    → cells ≡ doublesFrom text (at + 11) (c .cells) → draws ≡ wordsFrom text (at + 11 + c .cells) (c .draws)
+    → r ≡ rightLists text c cells draws → r ≡ rightCase text at c
+unfolding rightCase
+were-read text at c p d h = h ∙ rw (p, d)
+
+-- one more case, which starts at `at`
+pub start-more : (text : List ℕ) (j : ℕ) {at : ℕ} {c : Case} → at ≡ startOf text j → c ≡ caseAt text at
+    → c .expected + 4 + c .order + c .sizes + c .scores + c .ordered ≡ startOf text (j + 1)
+unfolding startOf
+start-more text j e h = rw (add-one, h, e)
+
+pub right-at : (text : List ℕ) (j : ℕ) {at : ℕ} {c : Case} {r : Bool} → at ≡ startOf text j → c ≡ caseAt text at → r ≡ rightCase text at c → r ≡ rightAt text j
+right-at text j e h t = rw (← e, ← h) t

@@ -1,0 +1,73 @@
+use native.Mathlib.Omega.{arith}
+use Rattle.replay_runs.specs.Runs.{caseAt}
+use Rattle.replay_runs.proofs.read_case.Statement.{statement}
+use Rattle.replay_runs.proofs.read_case.Tie as tie
+
+size-from-requires : tie.Need-size-from-requires
+size-from-requires c κs = tt
+
+size-from-requires-2 : tie.Need-size-from-requires-2
+size-from-requires-2 c κs = tt
+
+word-from-requires : tie.Need-word-from-requires
+word-from-requires c κs = tt
+
+word-from-requires-2 : tie.Need-word-from-requires-2
+word-from-requires-2 c κs = tt
+
+word-from-requires-3 : tie.Need-word-from-requires-3
+word-from-requires-3 c κs = tt
+
+size-from-requires-3 : tie.Need-size-from-requires-3
+size-from-requires-3 c κs = tt
+
+size-from-requires-4 : tie.Need-size-from-requires-4
+size-from-requires-4 c κs = tt
+
+size-from-requires-5 : tie.Need-size-from-requires-5
+size-from-requires-5 c κs = tt
+
+size-from-requires-6 : tie.Need-size-from-requires-6
+size-from-requires-6 c κs = tt
+
+size-from-requires-7 : tie.Need-size-from-requires-7
+size-from-requires-7 c κs = tt
+
+size-from-requires-8 : tie.Need-size-from-requires-8
+size-from-requires-8 c κs = tt
+
+add-t17 : tie.Need-add-t17
+add-t17 c = omega (arith, c .before .before .before .before .before .before .before .before .before .before .before .before .pre)
+
+add-t18 : tie.Need-add-t18
+add-t18 c = omega (arith, c .before .before .before .before .before .before .before .before .before .before .before .before .pre, c .before .before .before .before .before .before .before .before .before .before .size-from .ensures .1)
+
+add-t19 : tie.Need-add-t19
+add-t19 c = omega (arith, c .before .before .before .before .before .before .before .before .before .before .before .before .pre, c .before .before .before .before .before .before .before .before .before .before .size-from .ensures .1, c .before .before .before .before .before .before .before .before .before .size-from2 .ensures .1)
+
+returns : tie.Need-returns
+unfolding caseAt
+returns c = (
+  rw (← c .before .before .before .before .before .before .before .before .before .before .size-from .ensures .0, ← c .before .before .before .before .before .before .before .before .before .size-from2 .ensures .0, ← c .before .before .before .before .before .size-from3 .ensures .0, ← c .before .before .before .before .size-from4 .ensures .0, ← c .before .before .before .size-from5 .ensures .0, ← c .before .before .size-from6 .ensures .0, ← c .before .size-from7 .ensures .0, ← c .size-from8 .ensures .0, ← c .before .before .before .before .before .before .before .before .word-from .ensures, ← c .before .before .before .before .before .before .before .word-from2 .ensures, ← c .before .before .before .before .before .before .word-from3 .ensures),
+  (c .before .before .before .before .before .before .before .before .before .before .size-from .ensures .1, c .before .before .before .before .before .before .before .before .before .size-from2 .ensures .1, c .before .before .before .before .before .size-from3 .ensures .1, c .before .before .before .before .size-from4 .ensures .1, c .before .before .before .size-from5 .ensures .1, c .before .before .size-from6 .ensures .1, c .before .size-from7 .ensures .1, c .size-from8 .ensures .1, omega (arith, c .before .before .before .before .before .before .before .before .before .before .before .before .pre), omega (arith, c .before .before .before .before .before .before .before .before .before .before .before .before .pre, c .before .before .before .before .before .before .before .before .before .before .size-from .ensures .1, c .before .before .before .before .before .before .before .before .before .size-from2 .ensures .1)),
+)
+
+pub read-case-spec : {M : Type 1} → statement M
+read-case-spec =
+    tie.close
+    (tie.spec
+    size-from-requires
+    size-from-requires-2
+    word-from-requires
+    word-from-requires-2
+    word-from-requires-3
+    size-from-requires-3
+    size-from-requires-4
+    size-from-requires-5
+    size-from-requires-6
+    size-from-requires-7
+    size-from-requires-8
+    add-t17
+    add-t18
+    add-t19
+    returns)

@@ -1,0 +1,86 @@
+-- A recorded call of `get_onc_clusters_with_draws`, and whether it answers and leaves what is recorded. Definitions only.
+use Prim.Native.Nat.{ℕ, zero, suc, _+_, _/_}
+use mathlib.Core.Bool.{Bool, _&&_}
+use mathlib.Core.List.{List}
+use lib.Dec.{eqb}
+use lib.ListN.{length, replicate}
+use lib.Ieee.{Float}
+use Rattle.words.specs.Words.{wordFrom, sizeFrom, doublesFrom, wordsFrom, sameNumbers, sameDoubles, seven, namesWiped, leftLists, casesBy, differBy}
+use Rattle.onc.specs.Onc.{Answer, Lists, Outcome, groupOf}
+use Rattle.replay_runs.specs.declared.Case.{Case}
+
+-- the case at `at`: eleven words, the cells, the draws, and then the expected answer
+unfoldable pub caseAt : List ℕ → ℕ → Case
+caseAt text at =
+    record {
+      rows = wordFrom text at 0;
+      cols = wordFrom text at 1;
+      repeat = wordFrom text at 2;
+      cells = sizeFrom text at 3 144;
+      draws = sizeFrom text at 4 2048;
+      order = sizeFrom text at 5 16;
+      sizes = sizeFrom text at 6 16;
+      scores = sizeFrom text at 7 16;
+      ordered = sizeFrom text at 8 256;
+      floats = sizeFrom text at 9 4400;
+      numbers = sizeFrom text at 10 4000;
+      expected = at + 11 + sizeFrom text at 3 144 + sizeFrom text at 4 2048;
+    }
+
+-- whether the text has this number, place, count of groups and count of draws read at `expected`
+unfoldable pub sameAnswer : List ℕ → ℕ → Answer → Bool
+sameAnswer text expected a =
+    eqb (a .refused .number) (wordFrom text expected 0)
+    && (eqb (a .refused .place) (wordFrom text expected 1)
+    && (eqb (a .groups) (wordFrom text expected 2) && eqb (a .read) (wordFrom text expected 3)))
+
+-- whether it has these outputs behind that, one after the other
+unfoldable pub sameOutputs : List ℕ → Case → (order sizes : List ℕ) (scores ordered : List Float) → Bool
+sameOutputs text c order sizes scores ordered =
+    sameNumbers text (c .expected + 4) order
+    && (sameNumbers text (c .expected + 4 + c .order) sizes
+    && (sameDoubles text (c .expected + 4 + c .order + c .sizes) scores && sameDoubles text (c .expected + 4 + c .order + c .sizes + c .scores) ordered))
+
+-- whether the run answers and leaves what is recorded
+unfoldable pub rightRun : List ℕ → Case → Outcome → Bool
+rightRun text c o =
+    sameAnswer text (c .expected) (o .answer)
+    && (sameOutputs text c (o .lists .order) (o .lists .sizes) (o .lists .scores) (o .lists .ordered)
+    && leftLists (namesWiped (o .answer .refused .number) (c .rows)) (o .lists .floats) (o .lists .numbers))
+
+-- the lists that are lent, of the case's lengths
+abbrev pub lentTo : Case → Lists
+lentTo c =
+    record {
+      order = replicate (c .order) 999;
+      sizes = replicate (c .sizes) 999;
+      scores = replicate (c .scores) seven;
+      ordered = replicate (c .ordered) seven;
+      floats = replicate (c .floats) seven;
+      numbers = replicate (c .numbers) 999;
+    }
+
+unfoldable pub rightLists : List ℕ → Case → List Float → List ℕ → Bool
+rightLists text c cells draws = rightRun text c (groupOf cells (c .rows) (c .cols) (c .repeat) draws (lentTo c))
+
+-- the same, on the cells and the draws that the text has after the eleven words at `at`
+unfoldable pub rightCase : List ℕ → ℕ → Case → Bool
+rightCase text at c = rightLists text c (doublesFrom text (at + 11) (c .cells)) (wordsFrom text (at + 11 + c .cells) (c .draws))
+
+-- where case j starts: the first at word 0, each other behind the matrix of the one before
+unfoldable pub startOf : List ℕ → ℕ → ℕ
+startOf text zero = 0
+startOf text (suc j) =
+    let c = caseAt text (startOf text j) in
+    c .expected + 4 + c .order + c .sizes + c .scores + c .ordered
+
+-- whether case j is answered as recorded
+abbrev pub rightAt : List ℕ → ℕ → Bool
+rightAt text j = rightCase text (startOf text j) (caseAt text (startOf text j))
+
+-- the cases of a text, and how many of them are answered otherwise
+unfoldable pub casesIn : List ℕ → ℕ
+casesIn text = casesBy (startOf text) (length text / 17)
+
+unfoldable pub differIn : List ℕ → ℕ
+differIn text = differBy (rightAt text) (casesIn text)

@@ -1,0 +1,349 @@
+// Runs recorded whole runs of the grouping and counts those that are answered otherwise than recorded.
+// Groupings, 7, 8 and 9 are recorded from runs of the unchanged Rust on the case's draws; 1, 2, 4, 5 and 6, the rows that
+// keep every list, are the table's.
+// Standard input has one word a line, 16 hex digits. A case is eleven words, two lists and the expected answer:
+// - rows, cols, repeat, and the lengths of eight lists: cells, draws, order, sizes, scores, ordered matrix, working
+//   doubles, working numbers;
+// - the cells as the bits of doubles, then the draws;
+// - the number (0: a grouping), the place, the groups, the draws read; then order, sizes, scores and ordered matrix as
+//   they stand after the call.
+// Lent lists hold 999 or 7.0 in each cell before the call. specs/Runs.antt says when a case is answered as recorded.
+ghost use Prim.Native.Nat.{_+_, _≤_};
+ghost use mathlib.Core.Path.{_≡_};
+ghost use lib.ListN.{length, take, replicate};
+ghost use Rattle.onc.specs.Onc.{answerOf, groupOf};
+ghost use Rattle.words.specs.Words.{seven, doublesFrom, wordsFrom};
+ghost use Rattle.replay_runs.specs.Runs.{caseAt, sameAnswer, sameOutputs, rightRun, rightLists, rightCase, casesIn, differIn};
+use onc::Onc;
+use words::Counts;
+
+// The sizes of a case, and the word at which its expected answer starts.
+struct Case {
+    rows: usize,
+    cols: usize,
+    repeat: usize,
+    cells: usize,
+    draws: usize,
+    order: usize,
+    sizes: usize,
+    scores: usize,
+    ordered: usize,
+    floats: usize,
+    numbers: usize,
+    expected: usize,
+}
+
+// Each list comes from a function: a literal array would stand in every goal, cell by cell.
+fn text_buffer() -> [u8; 1048576]
+    ensures { λ r. ⌜ 1048576 ≡ length r ⌝ }
+{
+    [0; 1048576]
+}
+
+fn cell_buffer() -> [f64; 144]
+    ensures { λ r. ⌜ 144 ≡ length r ⌝ }
+{
+    [7.0; 144]
+}
+
+fn draw_buffer() -> [u64; 2048]
+    ensures { λ r. ⌜ 2048 ≡ length r ⌝ }
+{
+    [0; 2048]
+}
+
+fn number_buffer() -> [usize; 16]
+    ensures { λ r. ⌜ r ≡ replicate 16 999 ⌝ }
+{
+    [999; 16]
+}
+
+fn score_buffer() -> [f64; 16]
+    ensures { λ r. ⌜ r ≡ replicate 16 seven ⌝ }
+{
+    [7.0; 16]
+}
+
+fn matrix_buffer() -> [f64; 256]
+    ensures { λ r. ⌜ r ≡ replicate 256 seven ⌝ }
+{
+    [7.0; 256]
+}
+
+fn working_doubles() -> [f64; 4400]
+    ensures { λ r. ⌜ r ≡ replicate 4400 seven ⌝ }
+{
+    [7.0; 4400]
+}
+
+fn working_numbers() -> [usize; 4000]
+    ensures { λ r. ⌜ r ≡ replicate 4000 999 ⌝ }
+{
+    [999; 4000]
+}
+
+// n words from `at` on, as cells and as draws.
+fn cells_at(text: &[u8], at: usize, n: usize) -> [f64; 144]
+    requires { ⌜ n ≤ 144 ⌝ }
+    ensures { λ r. ⌜ (144 ≡ length r) × (take n r ≡ doublesFrom (now (text .entry)) at n) ⌝ }
+{
+    let mut xs = cell_buffer();
+    words::doubles(text, at, &mut xs[..n]);
+    xs
+}
+
+fn draws_at(text: &[u8], at: usize, n: usize) -> [u64; 2048]
+    requires { ⌜ n ≤ 2048 ⌝ }
+    ensures { λ r. ⌜ (2048 ≡ length r) × (take n r ≡ wordsFrom (now (text .entry)) at n) ⌝ }
+{
+    let mut xs = draw_buffer();
+    words::draws(text, at, &mut xs[..n]);
+    xs
+}
+
+// The case at `at`: eleven words, and the expected answer after its cells and draws.
+fn read_case(text: &[u8], at: usize) -> Case
+    requires { ⌜ at ≤ 61680 ⌝ }
+    ensures { λ r. ⌜ r ≡ caseAt (now (text .entry)) at ⌝ }
+    ensures { λ r. ⌜ (r .cells ≤ 144) × (r .draws ≤ 2048) × (r .order ≤ 16) × (r .sizes ≤ 16) × (r .scores ≤ 16) × (r .ordered ≤ 256) × (r .floats ≤ 4400) × (r .numbers ≤ 4000)
+        × (at + 11 ≤ r .expected) × (r .expected ≤ 63883) ⌝ }
+{
+    let cells = words::size_from(text, at, 3, 144);
+    let draws = words::size_from(text, at, 4, 2048);
+    Case {
+        rows: words::word_from(text, at, 0) as usize,
+        cols: words::word_from(text, at, 1) as usize,
+        repeat: words::word_from(text, at, 2) as usize,
+        cells,
+        draws,
+        order: words::size_from(text, at, 5, 16),
+        sizes: words::size_from(text, at, 6, 16),
+        scores: words::size_from(text, at, 7, 16),
+        ordered: words::size_from(text, at, 8, 256),
+        floats: words::size_from(text, at, 9, 4400),
+        numbers: words::size_from(text, at, 10, 4000),
+        expected: at + 11 + cells + draws,
+    }
+}
+
+// Whether the text has this answer's number, place, groups and draws read at `expected`.
+fn same_answer(text: &[u8], expected: usize, a: Onc) -> bool
+    ensures { λ r. ⌜ r ≡ sameAnswer (now (text .entry)) expected (answerOf a) ⌝ }
+{
+    if onc::number_of(a) as u64 != words::word_from(text, expected, 0) {
+        return false;
+    }
+    if onc::place_of(a) as u64 != words::word_from(text, expected, 1) {
+        return false;
+    }
+    if onc::groups_of(a) as u64 != words::word_from(text, expected, 2) {
+        return false;
+    }
+    onc::read_of(a) as u64 == words::word_from(text, expected, 3)
+}
+
+// Whether it has these outputs behind that, one after the other.
+fn same_outputs(
+    text: &[u8],
+    c: Case,
+    order: &[usize],
+    sizes: &[usize],
+    scores: &[f64],
+    ordered: &[f64],
+) -> bool
+    requires { ⌜ (c .expected ≤ 63883) × (c .order ≤ 16) × (c .sizes ≤ 16) × (c .scores ≤ 16) ⌝ }
+    ensures { λ r. ⌜ r ≡ sameOutputs (now (text .entry)) c (now (order .entry)) (now (sizes .entry)) (now (scores .entry)) (now (ordered .entry)) ⌝ }
+{
+    let order_at = c.expected + 4;
+    let sizes_at = order_at + c.order;
+    let scores_at = sizes_at + c.sizes;
+    if !words::same_numbers(text, order_at, order) {
+        return false;
+    }
+    if !words::same_numbers(text, sizes_at, sizes) {
+        return false;
+    }
+    if !words::same_doubles(text, scores_at, scores) {
+        return false;
+    }
+    words::same_doubles(text, scores_at + c.scores, ordered)
+}
+
+// Whether a run's answer and the lists that it left are as recorded.
+fn same_run(
+    text: &[u8],
+    c: Case,
+    a: Onc,
+    order: &[usize],
+    sizes: &[usize],
+    scores: &[f64],
+    ordered: &[f64],
+    floats: &[f64],
+    numbers: &[usize],
+) -> bool
+    requires { ⌜ (c .expected ≤ 63883) × (c .order ≤ 16) × (c .sizes ≤ 16) × (c .scores ≤ 16) ⌝ }
+    ensures { λ r. ⌜ r ≡ rightRun (now (text .entry)) c (record {
+      answer = answerOf a;
+      lists = record {
+        order = now (order .entry);
+        sizes = now (sizes .entry);
+        scores = now (scores .entry);
+        ordered = now (ordered .entry);
+        floats = now (floats .entry);
+        numbers = now (numbers .entry);
+      };
+    }) ⌝ }
+{
+    if !same_answer(text, c.expected, a) {
+        return false;
+    }
+    if !same_outputs(text, c, order, sizes, scores, ordered) {
+        return false;
+    }
+    let names = words::names_wiped(onc::number_of(a), c.rows);
+    words::left_lists(names, floats, numbers)
+}
+
+// Makes the call, and compares what it answers and leaves.
+fn right_run(
+    text: &[u8],
+    c: Case,
+    cells: &[f64],
+    draws: &[u64],
+    order: &mut [usize],
+    sizes: &mut [usize],
+    scores: &mut [f64],
+    ordered: &mut [f64],
+    floats: &mut [f64],
+    numbers: &mut [usize],
+) -> bool
+    requires { ⌜ (c .expected ≤ 63883) × (c .order ≤ 16) × (c .sizes ≤ 16) × (c .scores ≤ 16) ⌝ }
+    ensures { λ r. ⌜ r ≡ rightRun (now (text .entry)) c (groupOf (now (cells .entry)) (c .rows) (c .cols) (c .repeat) (now (draws .entry)) (record {
+      order = now (order .entry);
+      sizes = now (sizes .entry);
+      scores = now (scores .entry);
+      ordered = now (ordered .entry);
+      floats = now (floats .entry);
+      numbers = now (numbers .entry);
+    })) ⌝ }
+{
+    let a = onc::get_onc_clusters_with_draws(
+        cells,
+        c.rows,
+        c.cols,
+        c.repeat,
+        draws,
+        order,
+        sizes,
+        scores,
+        ordered,
+        floats,
+        numbers,
+    );
+    same_run(text, c, a, order, sizes, scores, ordered, floats, numbers)
+}
+
+// The same, on working lists of the case's lengths.
+fn right_worked(
+    text: &[u8],
+    c: Case,
+    cells: &[f64],
+    draws: &[u64],
+    order: &mut [usize],
+    sizes: &mut [usize],
+    scores: &mut [f64],
+    ordered: &mut [f64],
+) -> bool
+    requires { ⌜ (c .expected ≤ 63883) × (c .order ≤ 16) × (c .sizes ≤ 16) × (c .scores ≤ 16) × (c .floats ≤ 4400) × (c .numbers ≤ 4000) ⌝ }
+    ensures { λ r. ⌜ r ≡ rightRun (now (text .entry)) c (groupOf (now (cells .entry)) (c .rows) (c .cols) (c .repeat) (now (draws .entry)) (record {
+      order = now (order .entry);
+      sizes = now (sizes .entry);
+      scores = now (scores .entry);
+      ordered = now (ordered .entry);
+      floats = replicate (c .floats) seven;
+      numbers = replicate (c .numbers) 999;
+    })) ⌝ }
+{
+    let mut floats = working_doubles();
+    let mut numbers = working_numbers();
+    let n_floats = c.floats;
+    let n_numbers = c.numbers;
+    right_run(
+        text,
+        c,
+        cells,
+        draws,
+        order,
+        sizes,
+        scores,
+        ordered,
+        &mut floats[..n_floats],
+        &mut numbers[..n_numbers],
+    )
+}
+
+// The same, on outputs of the case's lengths.
+fn right_lists(text: &[u8], c: Case, cells: &[f64], draws: &[u64]) -> bool
+    requires { ⌜ (c .expected ≤ 63883) × (c .order ≤ 16) × (c .sizes ≤ 16) × (c .scores ≤ 16) × (c .floats ≤ 4400) × (c .numbers ≤ 4000) × (c .ordered ≤ 256) ⌝ }
+    ensures { λ r. ⌜ r ≡ rightLists (now (text .entry)) c (now (cells .entry)) (now (draws .entry)) ⌝ }
+{
+    let mut order = number_buffer();
+    let mut sizes = number_buffer();
+    let mut scores = score_buffer();
+    let mut ordered = matrix_buffer();
+    let n_order = c.order;
+    let n_sizes = c.sizes;
+    let n_scores = c.scores;
+    let n_ordered = c.ordered;
+    right_worked(
+        text,
+        c,
+        cells,
+        draws,
+        &mut order[..n_order],
+        &mut sizes[..n_sizes],
+        &mut scores[..n_scores],
+        &mut ordered[..n_ordered],
+    )
+}
+
+// Reads the case's cells and draws, and runs it.
+fn right_case(text: &[u8], at: usize, c: Case) -> bool
+    requires { ⌜ (at ≤ 61680) × (c .cells ≤ 144) × (c .draws ≤ 2048) ⌝ }
+    requires { ⌜ (c .expected ≤ 63883) × (c .order ≤ 16) × (c .sizes ≤ 16) × (c .scores ≤ 16) × (c .floats ≤ 4400) × (c .numbers ≤ 4000) × (c .ordered ≤ 256) ⌝ }
+    ensures { λ r. ⌜ r ≡ rightCase (now (text .entry)) at c ⌝ }
+{
+    let n_cells = c.cells;
+    let n_draws = c.draws;
+    let first = at + 11;
+    let second = first + n_cells;
+    let cells = cells_at(text, first, n_cells);
+    let draws = draws_at(text, second, n_draws);
+    right_lists(text, c, &cells[..n_cells], &draws[..n_draws])
+}
+
+// Runs every case of the text, and reports those that differ; kind 0: there is only one.
+fn run(text: &[u8]) -> Counts
+    requires { ⌜ length (now text) ≤ 1048576 ⌝ }
+    ensures { λ r. ⌜ (r .cases ≡ casesIn (now (text .entry))) × (r .differ ≡ differIn (now (text .entry))) ⌝ }
+{
+    let words = text.len() / 17;
+    let mut at = 0;
+    let mut cases: u64 = 0;
+    let mut differ: u64 = 0;
+    while at < words {
+        let c = read_case(text, at);
+        let right = right_case(text, at, c);
+        differ = differ + words::differs(right, at, 0);
+        cases = cases + 1;
+        at = c.expected + 4 + c.order + c.sizes + c.scores + c.ordered;
+    }
+    Counts { cases, differ }
+}
+
+fn main() {
+    let mut text = text_buffer();
+    let n = io::read_full(0, &mut text);
+    let counts = run(&text[..n]);
+    words::summary(counts);
+}
