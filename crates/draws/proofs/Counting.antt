@@ -7,7 +7,7 @@ use native.Mathlib.Omega.{arith}
 use lib.Dec.{ltb}
 use Rattle.draws.specs.Counts.{trialsOf, countOf, seedingsOf, seedingOf}
 
-between : (a b c d e : Bool) → (0 < cond a 2 (cond b 3 (cond c 4 (cond d 5 (cond e 6 7))))) × (cond a 2 (cond b 3 (cond c 4 (cond d 5 (cond e 6 7)))) ≤ 7)
+between : (a b c d e : Bool) → (2 ≤ cond a 2 (cond b 3 (cond c 4 (cond d 5 (cond e 6 7))))) × (cond a 2 (cond b 3 (cond c 4 (cond d 5 (cond e 6 7)))) ≤ 7)
 between true b c d e = (omega arith, omega arith)
 between false true c d e = (omega arith, omega arith)
 between false false true d e = (omega arith, omega arith)
@@ -15,8 +15,11 @@ between false false false true e = (omega arith, omega arith)
 between false false false false true = (omega arith, omega arith)
 between false false false false false = (omega arith, omega arith)
 
+pub trials-two : (k : ℕ) → 2 ≤ trialsOf k
+trials-two k = between (ltb k 3) (ltb k 8) (ltb k 21) (ltb k 55) (ltb k 149) .0
+
 pub trials-some : (k : ℕ) → 0 < trialsOf k
-trials-some k = between (ltb k 3) (ltb k 8) (ltb k 21) (ltb k 55) (ltb k 149) .0
+trials-some k = omega (arith, trials-two k)
 
 pub trials-few : (k : ℕ) → trialsOf k ≤ 7
 trials-few k = between (ltb k 3) (ltb k 8) (ltb k 21) (ltb k 55) (ltb k 149) .1

@@ -59,8 +59,8 @@ pub from-none : (limit : ℕ) (xs : List ℕ) → length xs ≤ firstFrom limit 
 unfolding firstFrom
 from-none limit xs h k l = leb-false limit (numbers xs k) (first-none (λ j. leb limit (numbers xs j)) (length xs) h k l)
 
--- the same places pass
-pub first-same : (p q : ℕ → Bool) (n : ℕ) → ((k : ℕ) → p k ≡ q k) → firstTo p n ≡ firstTo q n
+-- the same places below n pass
+pub first-same : (p q : ℕ → Bool) (n : ℕ) → ((k : ℕ) → k < n → p k ≡ q k) → firstTo p n ≡ firstTo q n
 unfolding firstTo
 first-same p q zero h = refl
-first-same p q (suc n) h = rw (first-same p q n h, h n)
+first-same p q (suc n) h = rw (first-same p q n (λ k l. h k (omega arith)), h n (omega arith))

@@ -60,7 +60,7 @@ module _ (x y : ℕ → ℕ → Float) (m k : ℕ) (centre : ℕ → ℕ) (agree
   labels-same (suc t) = labels-of (centroidsAt x m k centre t) (centroidsAt y m k centre t) (centroids-same t)
 
   passes-same : passes x m k centre ≡ passes y m k centre
-  passes-same = first-same (restsAt x m k centre) (restsAt y m k centre) 300 (λ t. rw (labels-same t, labels-same (suc t)))
+  passes-same = first-same (restsAt x m k centre) (restsAt y m k centre) 300 (λ t l. rw (labels-same t, labels-same (suc t)))
 
   pub lloyd-same : (lloydLabels x m k centre ≡ lloydLabels y m k centre) × (lloydEnded x m k centre ≡ lloydEnded y m k centre)
   lloyd-same = (labels-same (passes x m k centre) ∙ ap (labelsAt y m k centre) passes-same, ap (λ p. cond (ltb p 300) Rest Cut) passes-same)

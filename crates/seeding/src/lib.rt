@@ -32,15 +32,16 @@ fn next_centre(
     draws: &[u64],
     at: usize,
     count: usize,
+    sums: &mut [f64],
 ) -> trials::Tried
     requires { ⌜ Weighed (now squares) (now weights) ⌝ }
-    requires { ⌜ (0 < count) × (at + count ≤ length (now draws)) ⌝ }
+    requires { ⌜ (2 ≤ count) × (at + count ≤ length (now draws)) × (length (now sums) ≡ length (now weights)) ⌝ }
     ensures { λ r. ⌜ r ≡ triedOf (nextOf (table (now (squares .entry)) (length (now (weights .entry)))) (length (now (weights .entry))) count (now (weights .entry)) at (drop at (now (draws .entry)))) ⌝ }
     ensures { λ r. ⌜ Weights (table (now (squares .entry)) (length (now (weights .entry)))) (length (now (weights .entry))) (now (weights .entry))
         (nextOf (table (now (squares .entry)) (length (now (weights .entry)))) (length (now (weights .entry))) count (now (weights .entry)) at (drop at (now (draws .entry)))) (now (weights .exit)) ⌝ }
 {
     let m = weights.len();
-    match trials::best_trial(squares, weights, draws, at, count) {
+    match trials::best_trial(squares, weights, draws, at, count, sums) {
         trials::Tried::Stopped(s) => trials::Tried::Stopped(s),
         trials::Tried::Best(b) => {
             keep_lesser(weights, lists::row_of(squares, m, b.pick));
@@ -49,15 +50,16 @@ fn next_centre(
     }
 }
 
-// The centres behind the first, with the draws from place `from` on. The weights are those with the first as centre.
+// The centres behind the first, with the draws from place `from` on. The weights are those with the first as centre; `sums` is a list to work in.
 fn more_centres(
     squares: &[f64],
     draws: &[u64],
     from: usize,
     centres: &mut [usize],
     weights: &mut [f64],
+    sums: &mut [f64],
 ) -> Seeded
-    requires { ⌜ Weighed (now squares) (now weights) ⌝ }
+    requires { ⌜ Weighed (now squares) (now weights) × (length (now sums) ≡ length (now weights)) ⌝ }
     requires { ⌜ (0 < length (now centres)) × (length (now centres) ≤ 256) × (from + (length (now centres) - 1) * trialsOf (length (now centres)) ≤ length (now draws)) ⌝ }
     ensures { λ r. ⌜ SeededBy (centresOf (table (now (squares .entry)) (length (now (weights .entry)))) (length (now (weights .entry))) (trialsOf (length (now (centres .entry))))
         (length (now (centres .entry)) - 1) (now (weights .entry)) (take 1 (now (centres .entry))) from (drop from (now (draws .entry))))
@@ -67,7 +69,7 @@ fn more_centres(
     let count = draws::trials(k);
     let mut at = from;
     for j in 1..k {
-        match next_centre(squares, weights, draws, at, count) {
+        match next_centre(squares, weights, draws, at, count, sums) {
             trials::Tried::Stopped(s) => {
                 return Seeded::Stopped(s);
             }
@@ -101,7 +103,8 @@ pub fn seed(
             let c = d as usize;
             centres[0] = c;
             lists::copy(lists::row_of(squares, m, c), weights);
-            more_centres(squares, draws, at + 1, centres, weights)
+            let mut sums = lists::row_buffer();
+            more_centres(squares, draws, at + 1, centres, weights, &mut sums[..m])
         }
     }
 }

@@ -16,7 +16,7 @@ use Rattle.trials.specs.declared.Trial.{Trial}
 use Rattle.trials.specs.declared.Tried.the-variants.{Best, Stopped}
 use Rattle.draws.specs.Stops.{drawOf}
 use Rattle.draws.specs.Draws.{Drawn, drawn, refused, takes, one, shares}
-use Rattle.trials.specs.Trials.{limit, pick, trial, against, bestOf, nextOf, triedOf}
+use Rattle.trials.specs.Trials.{running, limit, trial, against, bestOf, nextOf, triedOf}
 use Rattle.trials.proofs.Picks.{pick-below}
 use Rattle.draws.proofs.Taken.{Ends, behind, took, take-behind, then-ends, then-behind, ends-map, one-took, draw-value, draw-stopped}
 
@@ -44,7 +44,7 @@ module _ (q : ℕ → ℕ → Float) (w : ℕ → Float) (total : Float) (m : �
   best-stopped more draws i l e = let v = draw-stopped (limit total m) draws i l e in (rw (v .1) refl, v .0)
 
   keeps : 0 < m → (b : Trial) (d : ℕ) → b .pick < m → d < limit total m → against q w total m b d .pick < m
-  keeps z b d h g = better-below (trial q w total m d) b m (lt (trial q w total m d .potential) (b .potential)) (pick-below w total m d z g) h
+  keeps z b d h g = better-below (trial q w total m d) b m (lt (trial q w total m d .potential) (b .potential)) (pick-below (running w) total m d z g) h
 
   -- it takes one draw and `more`, and picks an item
   pub best-took : 0 < m → (more at : ℕ) (ds : List ℕ)
@@ -59,7 +59,7 @@ module _ (q : ℕ → ℕ → Float) (w : ℕ → Float) (total : Float) (m : �
       ends-map (λ b r. (b .pick < m) × (r ≡ drop more rest) × (more ≤ length rest)) (λ p. (at + 1 ≤ p) × (p < at + 1 + more))
       (λ b r. (b .pick < m) × (r ≡ drop (1 + more) ds) × (1 + more ≤ length ds)) (λ p. (at ≤ p) × (p < at + (1 + more)))
       (takes (limit total m) (against q w total m) more (trial q w total m d) (at + 1) rest)
-      (took (limit total m) (against q w total m) (λ b. b .pick < m) (keeps z) more (trial q w total m d) (at + 1) rest (pick-below w total m d z (h .0)))
+      (took (limit total m) (against q w total m) (λ b. b .pick < m) (keeps z) more (trial q w total m d) (at + 1) rest (pick-below (running w) total m d z (h .0)))
       (λ b r k. (k .0, k .1 ∙ ap (drop more) (h .1) ∙ drop-drop more 1 ds, omega (arith, k .2, h .2, ap length (h .1) ∙ length-drop 1 ds)))
       (λ p k. (omega (arith, k .0), omega (arith, k .1))))
       (λ p k. (k .0, omega (arith, k .1)))

@@ -6,7 +6,7 @@ use mathlib.Core.List.{List}
 use lib.Dec.{ltb}
 use lib.ListN.{length}
 use lib.Ieee.{Float, lt, isNan, mul, binary64}
-use Rattle.lists.specs.Lists.{cells, row, firstTo}
+use Rattle.lists.specs.Lists.{cells, listed, row, firstTo}
 use Rattle.lists.specs.Sums.{zero64, sumTo}
 use Rattle.draws.specs.declared.Stop.the-variants.{DrawOutOfRange}
 use Rattle.draws.specs.Draws.{Drawn, drawn, refused, takes, one, andThen, shares, share}
@@ -22,16 +22,24 @@ lesser a b = cond (lt b a) b (cond (isNan a) b a)
 abbrev pub with : (ℕ → ℕ → Float) → (ℕ → Float) → ℕ → ℕ → Float
 with q w p i = lesser (w i) (q p i)
 
--- the first item whose running weight exceeds x, else the last
-unfoldable pub reached : (ℕ → Float) → Float → ℕ → ℕ
-reached w x m = cond (ltb (firstTo (λ i. lt x (sumTo w (suc i))) m) m) (firstTo (λ i. lt x (sumTo w (suc i))) m) (m - 1)
+-- the running weight of item i, the weights summed up to it
+abbrev pub running : (ℕ → Float) → ℕ → Float
+running w i = sumTo w (suc i)
 
--- with a total above 0 a trial takes a share draw, else an index draw: what the draw must be below, and what it picks
+-- the first of m places where f exceeds x, else the last
+unfoldable pub firstOver : (ℕ → Float) → Float → ℕ → ℕ
+firstOver f x m = cond (ltb (firstTo (λ i. lt x (f i)) m) m) (firstTo (λ i. lt x (f i)) m) (m - 1)
+
+-- with a total above 0 a trial takes a share draw, else an index draw: what the draw must be below, and what it picks. A share picks the first item
+-- whose running weight, f, exceeds share times total, else the last.
 abbrev pub limit : Float → ℕ → ℕ
 limit total m = cond (lt zero64 total) shares m
 
-unfoldable pub pick : (ℕ → Float) → Float → ℕ → ℕ → ℕ
-pick w total m d = cond (lt zero64 total) (reached w (mul binary64 (share d) total) m) d
+unfoldable pub pickBy : (ℕ → Float) → Float → ℕ → ℕ → ℕ
+pickBy f total m d = cond (lt zero64 total) (firstOver f (mul binary64 (share d) total) m) d
+
+abbrev pub pick : (ℕ → Float) → Float → ℕ → ℕ → ℕ
+pick w total m d = pickBy (running w) total m d
 
 -- a pick with its potential, the total of the weights with it as a centre too
 abbrev pub tried : (ℕ → ℕ → Float) → (ℕ → Float) → ℕ → ℕ → Trial
@@ -72,3 +80,7 @@ pub record Weighed (squares ws : List Float) : Type 0 where
   pub few : length ws ≤ 256
   pub some : 0 < length ws
   pub square : length squares ≡ length ws * length ws
+
+-- the running weights of ws, in a list
+abbrev pub Summed : List Float → List Float → Type 0
+Summed sums ws = sums ≡ listed (running (cells ws)) (length ws)

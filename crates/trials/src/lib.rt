@@ -1,12 +1,12 @@
 // One centre more of k-means++: trials of one draw each, and the best of them.
 ghost use mathlib.Core.Path.{_≡_};
-ghost use Prim.Native.Nat.{_<_, _≤_, _+_};
+ghost use Prim.Native.Nat.{_<_, _≤_, _+_, _-_};
 ghost use lib.ListN.{length, drop};
 ghost use Rattle.lists.specs.Lists.{cells};
 ghost use Rattle.lists.specs.Sums.{sumTo};
 ghost use Rattle.draws.specs.Draws.{takes};
 ghost use Rattle.trials.specs.Trials as spec;
-ghost use Rattle.trials.specs.Trials.{table, nextOf, triedOf, Weighed};
+ghost use Rattle.trials.specs.Trials.{table, nextOf, triedOf, Weighed, Summed};
 
 // A pick, with its potential: the total of the weights with it as a centre too.
 pub struct Trial {
@@ -33,16 +33,28 @@ pub fn lesser(a: f64, b: f64) -> f64
     a
 }
 
-// The first item whose running weight exceeds x, else the last.
-fn reached(weights: &[f64], x: f64) -> usize
-    requires { ⌜ 0 < length (now weights) ⌝ }
-    ensures { λ r. ⌜ r ≡ spec.reached (cells (now (weights .entry))) x (length (now (weights .entry))) ⌝ }
+// The running weight of each item, and the total.
+fn sum_weights(weights: &[f64], sums: &mut [f64]) -> f64
+    requires { ⌜ length (now sums) ≡ length (now weights) ⌝ }
+    ensures { λ r. ⌜ (r ≡ sumTo (cells (now (weights .entry))) (length (now (weights .entry)))) × Summed (now (sums .exit)) (now (weights .entry)) ⌝ }
 {
     let m = weights.len();
     let mut sum = 0.0;
     for i in 0..m {
         sum = sum + weights[i];
-        if sum > x {
+        sums[i] = sum;
+    }
+    sum
+}
+
+// The first place where a sum exceeds x, else the last.
+fn reached(sums: &[f64], x: f64) -> usize
+    requires { ⌜ 0 < length (now sums) ⌝ }
+    ensures { λ r. ⌜ r ≡ spec.firstOver (cells (now (sums .entry))) x (length (now (sums .entry))) ⌝ }
+{
+    let m = sums.len();
+    for i in 0..m {
+        if sums[i] > x {
             return i;
         }
     }
@@ -59,13 +71,13 @@ fn limit(total: f64, m: usize) -> u64
     m as u64
 }
 
-// What a draw picks.
-fn pick(weights: &[f64], total: f64, d: u64) -> usize
-    requires { ⌜ (0 < length (now weights)) × (d < spec.limit total (length (now weights))) ⌝ }
-    ensures { λ r. ⌜ r ≡ spec.pick (cells (now (weights .entry))) total (length (now (weights .entry))) d ⌝ }
+// What a draw picks, by the running weights.
+fn pick(sums: &[f64], total: f64, d: u64) -> usize
+    requires { ⌜ (0 < length (now sums)) × (d < spec.limit total (length (now sums))) ⌝ }
+    ensures { λ r. ⌜ r ≡ spec.pickBy (cells (now (sums .entry))) total (length (now (sums .entry))) d ⌝ }
 {
     if total > 0.0 {
-        return reached(weights, draws::share_of(d) * total);
+        return reached(sums, draws::share_of(d) * total);
     }
     d as usize
 }
@@ -83,17 +95,71 @@ fn potential(weights: &[f64], squares: &[f64]) -> f64
     sum
 }
 
+// Two potentials: one addition does not wait for the other.
+struct Potentials {
+    first: f64,
+    second: f64,
+}
+
+fn two_potentials(weights: &[f64], a: &[f64], b: &[f64]) -> Potentials
+    requires { ⌜ (length (now a) ≡ length (now weights)) × (length (now b) ≡ length (now weights)) ⌝ }
+    ensures { λ r. ⌜ (r .first ≡ sumTo (λ i. spec.lesser (cells (now (weights .entry)) i) (cells (now (a .entry)) i)) (length (now (weights .entry))))
+        × (r .second ≡ sumTo (λ i. spec.lesser (cells (now (weights .entry)) i) (cells (now (b .entry)) i)) (length (now (weights .entry)))) ⌝ }
+{
+    let m = weights.len();
+    let mut first = 0.0;
+    let mut second = 0.0;
+    for i in 0..m {
+        let w = weights[i];
+        first = first + lesser(w, a[i]);
+        second = second + lesser(w, b[i]);
+    }
+    Potentials { first, second }
+}
+
 // What a draw picks, with its potential.
-fn try_draw(squares: &[f64], weights: &[f64], total: f64, d: u64) -> Trial
-    requires { ⌜ Weighed (now squares) (now weights) ⌝ }
+fn try_draw(squares: &[f64], weights: &[f64], sums: &[f64], total: f64, d: u64) -> Trial
+    requires { ⌜ Weighed (now squares) (now weights) × Summed (now sums) (now weights) ⌝ }
     requires { ⌜ d < spec.limit total (length (now weights)) ⌝ }
     ensures { λ r. ⌜ r ≡ spec.trial (table (now (squares .entry)) (length (now (weights .entry)))) (cells (now (weights .entry))) total (length (now (weights .entry))) d ⌝ }
 {
-    let p = pick(weights, total, d);
+    let p = pick(sums, total, d);
     let x = potential(weights, lists::row_of(squares, weights.len(), p));
     Trial {
         potential: x,
         pick: p,
+    }
+}
+
+// The trials of two draws.
+struct Two {
+    first: Trial,
+    second: Trial,
+}
+
+fn try_two(squares: &[f64], weights: &[f64], sums: &[f64], total: f64, c: u64, d: u64) -> Two
+    requires { ⌜ Weighed (now squares) (now weights) × Summed (now sums) (now weights) ⌝ }
+    requires { ⌜ (c < spec.limit total (length (now weights))) × (d < spec.limit total (length (now weights))) ⌝ }
+    ensures { λ r. ⌜ (r .first ≡ spec.trial (table (now (squares .entry)) (length (now (weights .entry)))) (cells (now (weights .entry))) total (length (now (weights .entry))) c)
+        × (r .second ≡ spec.trial (table (now (squares .entry)) (length (now (weights .entry)))) (cells (now (weights .entry))) total (length (now (weights .entry))) d) ⌝ }
+{
+    let m = weights.len();
+    let p = pick(sums, total, c);
+    let q = pick(sums, total, d);
+    let x = two_potentials(
+        weights,
+        lists::row_of(squares, m, p),
+        lists::row_of(squares, m, q),
+    );
+    Two {
+        first: Trial {
+            potential: x.first,
+            pick: p,
+        },
+        second: Trial {
+            potential: x.second,
+            pick: q,
+        },
     }
 }
 
@@ -106,17 +172,46 @@ fn better(b: Trial, t: Trial) -> Trial
     b
 }
 
-// The best of `first` and the trials of the draws from place `from` on, `more` of them.
+// The best of b and the trial of the draw at place `from`, where that is below `end`.
+fn last_trial(
+    squares: &[f64],
+    weights: &[f64],
+    sums: &[f64],
+    total: f64,
+    draws: &[u64],
+    from: usize,
+    end: usize,
+    b: Trial,
+) -> Tried
+    requires { ⌜ Weighed (now squares) (now weights) × Summed (now sums) (now weights) ⌝ }
+    requires { ⌜ (end ≤ from + 1) × (end ≤ length (now draws)) ⌝ }
+    ensures { λ r. ⌜ r ≡ triedOf (takes (spec.limit total (length (now (weights .entry))))
+        (spec.against (table (now (squares .entry)) (length (now (weights .entry)))) (cells (now (weights .entry))) total (length (now (weights .entry)))) (end - from) b from (drop from (now (draws .entry)))) ⌝ }
+{
+    if from >= end {
+        return Tried::Best(b);
+    }
+    match draws::draw_below(draws, from, limit(total, weights.len())) {
+        draws::Draw::Stopped(s) => Tried::Stopped(s),
+        draws::Draw::Value(d) => {
+            let t = try_draw(squares, weights, sums, total, d);
+            Tried::Best(better(b, t))
+        }
+    }
+}
+
+// The best of `first` and the trials of the draws from place `from` on, `more` of them, two at a time.
 fn later_trials(
     squares: &[f64],
     weights: &[f64],
+    sums: &[f64],
     total: f64,
     draws: &[u64],
     from: usize,
     more: usize,
     first: Trial,
 ) -> Tried
-    requires { ⌜ Weighed (now squares) (now weights) ⌝ }
+    requires { ⌜ Weighed (now squares) (now weights) × Summed (now sums) (now weights) ⌝ }
     requires { ⌜ from + more ≤ length (now draws) ⌝ }
     ensures { λ r. ⌜ r ≡ triedOf (takes (spec.limit total (length (now (weights .entry))))
         (spec.against (table (now (squares .entry)) (length (now (weights .entry)))) (cells (now (weights .entry))) total (length (now (weights .entry)))) more first from (drop from (now (draws .entry)))) ⌝ }
@@ -124,31 +219,73 @@ fn later_trials(
     let top = limit(total, weights.len());
     let end = from + more;
     let mut b = first;
-    for i in from..end {
+    let mut i = from;
+    while i + 1 < end {
         match draws::draw_below(draws, i, top) {
             draws::Draw::Stopped(s) => {
                 return Tried::Stopped(s);
             }
-            draws::Draw::Value(d) => {
-                b = better(b, try_draw(squares, weights, total, d));
-            }
+            draws::Draw::Value(c) => match draws::draw_below(draws, i + 1, top) {
+                draws::Draw::Stopped(s) => {
+                    return Tried::Stopped(s);
+                }
+                draws::Draw::Value(d) => {
+                    let t = try_two(squares, weights, sums, total, c, d);
+                    b = better(better(b, t.first), t.second);
+                    i = i + 2;
+                }
+            },
         }
     }
-    Tried::Best(b)
+    last_trial(squares, weights, sums, total, draws, i, end, b)
 }
 
-// The best of `count` trials, with the draws from place `at` on. Inner form: the list has so many there.
-pub fn best_trial(squares: &[f64], weights: &[f64], draws: &[u64], at: usize, count: usize) -> Tried
-    requires { ⌜ Weighed (now squares) (now weights) ⌝ }
-    requires { ⌜ (0 < count) × (at + count ≤ length (now draws)) ⌝ }
-    ensures { λ r. ⌜ r ≡ triedOf (nextOf (table (now (squares .entry)) (length (now (weights .entry)))) (length (now (weights .entry))) count (now (weights .entry)) at (drop at (now (draws .entry)))) ⌝ }
+// The best of the trials of the draw c and of the draws from place `from` on, `more` of them: the first two at a time too.
+fn first_trials(
+    squares: &[f64],
+    weights: &[f64],
+    sums: &[f64],
+    total: f64,
+    draws: &[u64],
+    from: usize,
+    more: usize,
+    c: u64,
+) -> Tried
+    requires { ⌜ Weighed (now squares) (now weights) × Summed (now sums) (now weights) ⌝ }
+    requires { ⌜ (c < spec.limit total (length (now weights))) × (0 < more) × (from + more ≤ length (now draws)) ⌝ }
+    ensures { λ r. ⌜ r ≡ triedOf (takes (spec.limit total (length (now (weights .entry))))
+        (spec.against (table (now (squares .entry)) (length (now (weights .entry)))) (cells (now (weights .entry))) total (length (now (weights .entry)))) more
+        (spec.trial (table (now (squares .entry)) (length (now (weights .entry)))) (cells (now (weights .entry))) total (length (now (weights .entry))) c) from (drop from (now (draws .entry)))) ⌝ }
 {
-    let total = lists::sum_of(weights);
-    match draws::draw_below(draws, at, limit(total, weights.len())) {
+    match draws::draw_below(draws, from, limit(total, weights.len())) {
         draws::Draw::Stopped(s) => Tried::Stopped(s),
         draws::Draw::Value(d) => {
-            let first = try_draw(squares, weights, total, d);
-            later_trials(squares, weights, total, draws, at + 1, count - 1, first)
+            let t = try_two(squares, weights, sums, total, c, d);
+            let b = better(t.first, t.second);
+            later_trials(squares, weights, sums, total, draws, from + 1, more - 1, b)
+        }
+    }
+}
+
+// The best of `count` trials, with the draws from place `at` on. Inner form: the list has so many there. `sums` holds anything, before the
+// call and after it.
+pub fn best_trial(
+    squares: &[f64],
+    weights: &[f64],
+    draws: &[u64],
+    at: usize,
+    count: usize,
+    sums: &mut [f64],
+) -> Tried
+    requires { ⌜ Weighed (now squares) (now weights) ⌝ }
+    requires { ⌜ (2 ≤ count) × (at + count ≤ length (now draws)) × (length (now sums) ≡ length (now weights)) ⌝ }
+    ensures { λ r. ⌜ r ≡ triedOf (nextOf (table (now (squares .entry)) (length (now (weights .entry)))) (length (now (weights .entry))) count (now (weights .entry)) at (drop at (now (draws .entry)))) ⌝ }
+{
+    let total = sum_weights(weights, sums);
+    match draws::draw_below(draws, at, limit(total, weights.len())) {
+        draws::Draw::Stopped(s) => Tried::Stopped(s),
+        draws::Draw::Value(c) => {
+            first_trials(squares, weights, sums, total, draws, at + 1, count - 1, c)
         }
     }
 }

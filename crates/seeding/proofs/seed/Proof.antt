@@ -1,20 +1,20 @@
-use Prim.Native.Nat.{_*_, _+_, _-_, _<_, ℕ}
+use Prim.Native.Nat.{_*_, _+_, _-_, _<_, _≤_, ℕ}
 use mathlib.Core.Path.{_∙_, _≡_, refl, sym}
 use mathlib.Core.List.{[], _∷_}
 use native.Mathlib.Omega.{arith}
 use lib.ListN.{drop, length, length-set, set, take}
-use lib.Seq.{take-suc-set}
+use lib.Seq.{length-take-le, take-suc-set}
 use lib.Ieee.{nan}
 use borrow.Author.Needs.{needs}
+use Rattle.seeding.specs.Seeding.{centresOf, seeding}
 use Rattle.draws.specs.Stops.{drawOf}
 use Rattle.draws.specs.Draws.{indexDraw}
 use Rattle.draws.specs.Counts.{seedingOf, trialsOf}
-use Rattle.lists.specs.Lists.{listed, row}
 use Rattle.trials.specs.Trials.{table}
+use Rattle.lists.specs.Lists.{listed, row}
 use Rattle.draws.proofs.Taken.{draw-value}
 use Rattle.lists.proofs.Listed.{listed-of}
 use Rattle.lists.proofs.Grid.{row-long}
-use Rattle.seeding.specs.Seeding.{centresOf, seeding}
 use Rattle.seeding.proofs.Turns.{seeded-same, seeded-stopped, seeding-stopped, seeding-value}
 use Rattle.draws.specs.declared.Draw.the-variants.{Value}
 use Rattle.seeding.proofs.seed.Statement.{statement}
@@ -52,14 +52,26 @@ copy-requires c κs =
     let s = c .before .before .before .before .before .before .before .before .before .before in
     rw (c .before .row-of .ensures) (first-row s (c .before .before .before .d .given .0 .0) (item s (sym (c .before .before .before .before .before .draw-below .ensures) ∙ c .before .before .before .d .given .1)))
 
+row-buffer-requires : tie.Need-row-buffer-requires
+row-buffer-requires c κs = tt
+
 add-more-centres : tie.Need-add-more-centres
-add-more-centres c = omega (arith, inside (c .before .before .before .before .before .before .before .before .before .before .before .before .before))
+add-more-centres c = omega (arith, inside (c .before .before .before .before .before .before .before .before .before .before .before .before .before .before))
+
+array-borrow-prefix-sums : tie.Need-array-borrow-prefix-sums
+array-borrow-prefix-sums c = omega (arith, c .before .before .before .before .before .before .before .before .before .before .before .before .before .before .before .before .pre .few, c .before .before .row-buffer .ensures)
+
+slice-aggregate-more-centres : tie.Need-slice-aggregate-more-centres
+slice-aggregate-more-centres c =
+    let h : length (c .before .before .before .before .before .before .before .before .before .before .before .before .before .before .before .before .before .args .weights .now) ≤ length (c .before .before .before .row-buffer .result) = omega (arith, c .before .before .before .before .before .before .before .before .before .before .before .before .before .before .before .before .before .pre .few, c .before .before .before .row-buffer .ensures) in
+    sym (length-take-le (length (c .before .before .before .before .before .before .before .before .before .before .before .before .before .before .before .before .before .args .weights .now)) (c .before .before .before .row-buffer .result) h)
 
 more-centres-requires : tie.Need-more-centres-requires
 more-centres-requires c κs =
-    let p = c .before .before .before .before .before .before .before .before .before .before .before .before .before .before .before .pre in
-    let e = c .before .before .before .before .copy .kept .1 .0 in (
-      record { few = rw e (p .few); some = rw e (omega (arith, p .two, p .names)); square = rw e (p .square) },
+    let p = c .before .before .before .before .before .before .before .before .before .before .before .before .before .before .before .before .before .pre in
+    let e = c .before .before .before .before .before .before .copy .kept .1 .0 in
+    let h : length (c .before .before .before .before .before .before .before .before .before .before .before .before .before .before .before .before .before .args .weights .now) ≤ length (c .before .before .before .row-buffer .result) = omega (arith, p .few, c .before .before .before .row-buffer .ensures) in (
+      (record { few = rw e (p .few); some = rw e (omega (arith, p .two, p .names)); square = rw e (p .square) }, length-take-le (length (c .before .before .before .before .before .before .before .before .before .before .before .before .before .before .before .before .before .args .weights .now)) (c .before .before .before .row-buffer .result) h ∙ sym e),
       simp length-set (omega (arith, p .two), omega (arith, p .names, p .few), omega (arith, p .enough)),
     )
 
@@ -71,30 +83,30 @@ returns c =
     seeded-stopped _ _ _ _ (seeding-stopped (table (a .squares .now) m) m (length (a .centres .now)) (a .at) (a .draws .now) (inside s) (sym (c .before .before .before .draw-below .ensures) ∙ c .before .s .given .1))
 
 same-length : tie.Need-same-length
-same-length c = c .before .before .before .before .more-centres .kept .1 .1 .1 .0 ∙ simp length-set
+same-length c = c .before .before .before .before .before .more-centres .kept .1 .1 .1 .0 ∙ simp length-set
 
 same-length-2 : tie.Need-same-length-2
 same-length-2 c = search needs
 
 returns-2 : tie.Need-returns-2
 returns-2 c =
-    let s = c .before .before .before .before .before .before .before .before .before .before .before .before .before .before .before .before .before .before .before .before in
+    let s = c .before .before .before .before .before .before .before .before .before .before .before .before .before .before .before .before .before .before .before .before .before .before .before in
     let a = s .args in
     let m = length (a .weights .now) in
     let k = length (a .centres .now) in
-    let d = c .before .before .before .before .before .before .before .before .before .before .before .before .before .d .given .0 .0 in
+    let d = c .before .before .before .before .before .before .before .before .before .before .before .before .before .before .before .before .d .given .0 .0 in
     let q = table (a .squares .now) m in
-    let v = sym (c .before .before .before .before .before .before .before .before .before .before .before .before .before .before .before .draw-below .ensures) ∙ c .before .before .before .before .before .before .before .before .before .before .before .before .before .d .given .1 in
-    let ws = c .before .before .before .before .before .before .before .before .before .copy .last .1 .0 in
+    let v = sym (c .before .before .before .before .before .before .before .before .before .before .before .before .before .before .before .before .before .before .draw-below .ensures) ∙ c .before .before .before .before .before .before .before .before .before .before .before .before .before .before .before .before .d .given .1 in
+    let ws = c .before .before .before .before .before .before .before .before .before .before .before .before .copy .last .1 .0 in
     let cs = set (a .centres .now) 0 d in
-    let w : ws ≡ listed (q d) m = c .before .before .before .before .before .before .before .before .before .copy .ensures ∙ c .before .before .before .before .before .before .before .before .before .before .before .row-of .ensures ∙ listed-of nan (q d) m (row (a .squares .now) m d) (first-row s d (item s v)) (λ i l. refl) in
-    let n : length ws ≡ m = c .before .before .before .before .before .before .before .before .before .copy .kept .1 .0 in
+    let w : ws ≡ listed (q d) m = c .before .before .before .before .before .before .before .before .before .before .before .before .copy .ensures ∙ c .before .before .before .before .before .before .before .before .before .before .before .before .before .before .row-of .ensures ∙ listed-of nan (q d) m (row (a .squares .now) m d) (first-row s d (item s v)) (λ i l. refl) in
+    let n : length ws ≡ m = c .before .before .before .before .before .before .before .before .before .before .before .before .copy .kept .1 .0 in
     let l : length cs ≡ k = length-set (a .centres .now) 0 d in
     let t : take 1 cs ≡ d ∷ [] = take-suc-set (a .centres .now) 0 d (omega (arith, s .pre .two)) in
     let e : centresOf (table (a .squares .now) (length ws)) (length ws) (trialsOf (length cs)) (length cs - 1) ws (take 1 cs) (a .at + 1) (drop (a .at + 1) (a .draws .now)) ≡ seeding q m k (a .at) (drop (a .at) (a .draws .now)) =
     rw (n, l, t, w) (sym (seeding-value q m k (a .at) (a .draws .now) (inside s) v)) in
     let u : a .at + 1 + (length cs - 1) * trialsOf (length cs) ≡ a .at + seedingOf k = rw l (omega arith) in
-    seeded-same _ _ _ _ _ _ e u (c .before .before .before .before .more-centres .ensures)
+    seeded-same _ _ _ _ _ _ e u (c .before .before .before .before .before .more-centres .ensures)
 
 pub seed-spec : {M : Type 1} → statement M
 seed-spec =
@@ -106,7 +118,10 @@ seed-spec =
     slice-write-centres
     row-of-requires
     copy-requires
+    row-buffer-requires
     add-more-centres
+    array-borrow-prefix-sums
+    slice-aggregate-more-centres
     more-centres-requires
     returns
     same-length

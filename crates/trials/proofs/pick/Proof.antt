@@ -1,6 +1,6 @@
 use mathlib.Core.Path.{_∙_}
 use lib.Ieee.{ofBits}
-use Rattle.trials.specs.Trials.{pick, reached}
+use Rattle.trials.specs.Trials.{pickBy}
 use Rattle.trials.proofs.pick.Statement.{statement}
 use Rattle.trials.proofs.pick.Tie as tie
 
@@ -11,11 +11,11 @@ reached-requires : tie.Need-reached-requires
 reached-requires c κs = c .before .before .before .pre .0
 
 returns : tie.Need-returns
-unfolding pick ofBits
+unfolding pickBy ofBits
 returns c = c .reached .ensures ∙ rw (c .before .before .if1 .taken, c .before .share-of .ensures)
 
 returns-2 : tie.Need-returns-2
-unfolding pick ofBits
+unfolding pickBy ofBits
 returns-2 c = rw (c .if1 .left)
 
 pub pick-spec : {M : Type 1} → statement M
