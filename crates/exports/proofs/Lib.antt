@@ -1,3 +1,4 @@
--- Laws of the answers in a list of three, and of four.
-pub mod Laws
+-- Laws of what the calls for other languages give and leave.
 pub mod Grouping
+pub mod Average
+pub mod Book

@@ -1,3 +1,6 @@
--- What the calls for other languages give and leave: Told.antt for the k-means leaves, Grouping.antt for the grouping.
-pub mod Told
+-- What the calls for other languages give and leave: Grouping.antt for the grouping, Average.antt for the statistics, Book.antt for the
+-- check of a book, Draws.antt for the draws of a round.
 pub mod Grouping
+pub mod Average
+pub mod Book
+pub mod Draws

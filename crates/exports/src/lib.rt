@@ -1,120 +1,23 @@
-// What C calls: the square root in its two forms, the k-means leaves, and the grouping.
+// What other languages call: the grouping, the statistics, the check of a book in whole millionths, and the draws of a round.
 ghost use mathlib.Core.Path.{_≡_};
 ghost use mathlib.Core.Bool.{cond, false};
 ghost use mathlib.Core.List.{[], _∷_};
 ghost use lib.Dec.{eqb};
 ghost use lib.ListN.{length};
-ghost use Rattle.sqrt.specs.Root.{root};
-ghost use Rattle.refusals.specs.Table.{refusal};
-ghost use Rattle.kmeans_answers.specs.Answers.{numberOf, placeOf, readOf};
-ghost use Rattle.kmeans.specs.Leaves.{plusPlusLeaf, lloydLeaf, labelsLeaf};
+ghost use Rattle.lists.specs.Lists.{cells};
+ghost use Rattle.stats.specs.Average as stats;
+ghost use Rattle.stats.specs.Average.{averagedOf};
+ghost use Rattle.intake.specs.Intake as intake;
+ghost use Rattle.intake.specs.Intake.{intakeOf};
 ghost use Rattle.onc.specs.Onc as grouping;
 ghost use Rattle.onc.specs.Onc.{shapeOf, groupOf};
-ghost use Rattle.exports.specs.Told.{toldOf};
 ghost use Rattle.exports.specs.Grouping.{groupingTold};
-use kmeans_answers::Kmeans;
+ghost use Rattle.exports.specs.Average.{numberWithout, averageTold};
+ghost use Rattle.exports.specs.Book.{bookShape, bookTold};
+ghost use Rattle.exports.specs.Draws.{drawsFor};
+use intake::Intake;
 use onc::Onc;
-
-#[no_mangle]
-pub extern "C" fn onc_sqrt(x: f64) -> f64
-    ensures { λ r. ⌜ r ≡ root x ⌝ }
-{
-    sqrt::sqrt(x)
-}
-
-#[no_mangle]
-pub extern "C" fn onc_sqrt_by_digits(x: f64) -> f64
-    ensures { λ r. ⌜ r ≡ root x ⌝ }
-{
-    sqrt::sqrt_by_digits(x)
-}
-
-// 0 where the list for the answer has three places; else the number by which the call is refused: 2, 4, 5 or 6.
-fn answer_refused(cells: usize, n: usize, places: usize) -> usize
-    ensures { λ r. ⌜ r ≡ cond (eqb places 3) 0 (refusal cells n n false 0 0 .number) ⌝ }
-{
-    if places == 3 {
-        return 0;
-    }
-    refusals::number_of(refusals::check(cells, n, n, false, 0, 0))
-}
-
-// The number, the place and the draws read, in a list of three; the number.
-fn tell(a: Kmeans, answer: &mut [usize]) -> usize
-    requires { ⌜ length (now answer) ≡ 3 ⌝ }
-    ensures { λ r. ⌜ (r ≡ numberOf a) × (now (answer .exit) ≡ numberOf a ∷ placeOf a ∷ readOf a ∷ []) ⌝ }
-{
-    let number = kmeans_answers::number_of(a);
-    answer[0] = number;
-    answer[1] = kmeans_answers::place_of(a);
-    answer[2] = kmeans_answers::read_of(a);
-    number
-}
-
-#[no_mangle]
-pub extern "C" fn onc_kmeans_plus_plus(
-    points: &[f64],
-    n: usize,
-    k: usize,
-    draws: &[u64],
-    centres: &mut [usize],
-    floats: &mut [f64],
-    numbers: &mut [usize],
-    answer: &mut [usize],
-) -> usize
-    ensures { λ r. ⌜ record { number = r; answer = now (answer .exit); out = now (centres .exit); floats = now (floats .exit); numbers = now (numbers .exit) }
-        ≡ toldOf (length (now (points .entry))) n (plusPlusLeaf (now (points .entry)) n k (now (draws .entry)) (now (centres .entry)) (now (floats .entry)) (now (numbers .entry))) (now (answer .entry)) (now (centres .entry)) (now (floats .entry)) (now (numbers .entry)) ⌝ }
-{
-    let refused = answer_refused(points.len(), n, answer.len());
-    if refused != 0 {
-        return refused;
-    }
-    let a = kmeans::kmeans_plus_plus(points, n, k, draws, centres, floats, numbers);
-    tell(a, answer)
-}
-
-#[no_mangle]
-pub extern "C" fn onc_lloyd(
-    points: &[f64],
-    n: usize,
-    centres: &[usize],
-    labels: &mut [usize],
-    floats: &mut [f64],
-    numbers: &mut [usize],
-    answer: &mut [usize],
-) -> usize
-    ensures { λ r. ⌜ record { number = r; answer = now (answer .exit); out = now (labels .exit); floats = now (floats .exit); numbers = now (numbers .exit) }
-        ≡ toldOf (length (now (points .entry))) n (lloydLeaf (now (points .entry)) n (now (centres .entry)) (now (labels .entry)) (now (floats .entry)) (now (numbers .entry))) (now (answer .entry)) (now (labels .entry)) (now (floats .entry)) (now (numbers .entry)) ⌝ }
-{
-    let refused = answer_refused(points.len(), n, answer.len());
-    if refused != 0 {
-        return refused;
-    }
-    let a = kmeans::lloyd(points, n, centres, labels, floats, numbers);
-    tell(a, answer)
-}
-
-#[no_mangle]
-pub extern "C" fn onc_kmeans_labels(
-    points: &[f64],
-    n: usize,
-    k: usize,
-    draws: &[u64],
-    labels: &mut [usize],
-    floats: &mut [f64],
-    numbers: &mut [usize],
-    answer: &mut [usize],
-) -> usize
-    ensures { λ r. ⌜ record { number = r; answer = now (answer .exit); out = now (labels .exit); floats = now (floats .exit); numbers = now (numbers .exit) }
-        ≡ toldOf (length (now (points .entry))) n (labelsLeaf (now (points .entry)) n k (now (draws .entry)) (now (labels .entry)) (now (floats .entry)) (now (numbers .entry))) (now (answer .entry)) (now (labels .entry)) (now (floats .entry)) (now (numbers .entry)) ⌝ }
-{
-    let refused = answer_refused(points.len(), n, answer.len());
-    if refused != 0 {
-        return refused;
-    }
-    let a = kmeans::kmeans_labels(points, n, k, draws, labels, floats, numbers);
-    tell(a, answer)
-}
+use stats::Average;
 
 // 0 where the list for the answer has four places; else the number by which the grouping is refused: 1, 2, 4, 5 or 6.
 fn grouping_refused(repeat: usize, rows: usize, cols: usize, cells: usize, places: usize) -> usize
@@ -201,4 +104,128 @@ pub extern "C" fn onc_get_onc_clusters_with_draws(
         numbers,
     );
     tell_grouping(a, answer)
+}
+
+// Two numbers, in a list of two; the first.
+fn tell_two(first: usize, second: usize, answer: &mut [usize]) -> usize
+    requires { ⌜ length (now answer) ≡ 2 ⌝ }
+    ensures { λ r. ⌜ (r ≡ first) × (now (answer .exit) ≡ first ∷ second ∷ []) ⌝ }
+{
+    answer[0] = first;
+    answer[1] = second;
+    first
+}
+
+// The number by which a statistic is refused where its lists do not fit: 4 or 6.
+fn average_refused(a: Average) -> usize
+    ensures { λ r. ⌜ r ≡ numberWithout (averagedOf a) ⌝ }
+{
+    match a {
+        Average::Value(_x) => 6,
+        Average::Empty => 6,
+        Average::TooMany => 4,
+    }
+}
+
+// The average in a list of one, where there is one; the number and how many averages there are in a list of two; the number.
+fn tell_average(a: Average, average: &mut [f64], answer: &mut [usize]) -> usize
+    ensures { λ r. ⌜ record { number = r; answer = now (answer .exit); average = now (average .exit) }
+        ≡ averageTold (averagedOf a) (now (answer .entry)) (now (average .entry)) ⌝ }
+{
+    if average.len() != 1 {
+        return average_refused(a);
+    }
+    if answer.len() != 2 {
+        return average_refused(a);
+    }
+    match a {
+        Average::Value(x) => {
+            average[0] = x;
+            tell_two(0, 1, answer)
+        }
+        Average::Empty => tell_two(0, 0, answer),
+        Average::TooMany => tell_two(4, 0, answer),
+    }
+}
+
+#[no_mangle]
+pub extern "C" fn onc_mean(values: &[f64], average: &mut [f64], answer: &mut [usize]) -> usize
+    ensures { λ r. ⌜ record { number = r; answer = now (answer .exit); average = now (average .exit) }
+        ≡ averageTold (stats.mean (cells (now (values .entry))) (length (now (values .entry)))) (now (answer .entry)) (now (average .entry)) ⌝ }
+{
+    let a = stats::mean(values);
+    tell_average(a, average, answer)
+}
+
+#[no_mangle]
+pub extern "C" fn onc_variance(
+    values: &[f64],
+    ddof: usize,
+    average: &mut [f64],
+    answer: &mut [usize],
+) -> usize
+    ensures { λ r. ⌜ record { number = r; answer = now (answer .exit); average = now (average .exit) }
+        ≡ averageTold (stats.variance (cells (now (values .entry))) (length (now (values .entry))) ddof) (now (answer .entry)) (now (average .entry)) ⌝ }
+{
+    let a = stats::variance(values, ddof);
+    tell_average(a, average, answer)
+}
+
+#[no_mangle]
+pub extern "C" fn onc_std_dev(
+    values: &[f64],
+    ddof: usize,
+    average: &mut [f64],
+    answer: &mut [usize],
+) -> usize
+    ensures { λ r. ⌜ record { number = r; answer = now (answer .exit); average = now (average .exit) }
+        ≡ averageTold (stats.deviation (cells (now (values .entry))) (length (now (values .entry))) ddof) (now (answer .entry)) (now (average .entry)) ⌝ }
+{
+    let a = stats::std_dev(values, ddof);
+    tell_average(a, average, answer)
+}
+
+// 0 where the list for the answer has two places; else the number by which the check of a book is refused: 2, 4, 5 or 6.
+fn book_refused(rows: usize, cols: usize, cells: usize, places: usize) -> usize
+    ensures { λ r. ⌜ r ≡ cond (eqb places 2) 0 (bookShape rows cols cells .number) ⌝ }
+{
+    if places == 2 {
+        return 0;
+    }
+    if rows != cols {
+        return 2;
+    }
+    refusals::number_of(refusals::check(cells, rows, rows, false, 0, 0))
+}
+
+#[no_mangle]
+pub extern "C" fn onc_check_book(
+    cells: &[i64],
+    rows: usize,
+    cols: usize,
+    answer: &mut [usize],
+) -> usize
+    ensures { λ r. ⌜ record { number = r; answer = now (answer .exit) }
+        ≡ bookTold (bookShape rows cols (length (now (cells .entry)))) (intakeOf (now (cells .entry)) rows cols) (now (answer .entry)) ⌝ }
+{
+    let refused = book_refused(rows, cols, cells.len(), answer.len());
+    if refused != 0 {
+        return refused;
+    }
+    let a = intake::check_book(cells, rows, cols);
+    tell_two(intake::number_of(a), intake::place_of(a), answer)
+}
+
+// The draws that a round of so many names reads for one repeat; 0 where there is no such round.
+#[no_mangle]
+pub extern "C" fn onc_draws_for(names: usize) -> u64
+    ensures { λ r. ⌜ r ≡ drawsFor names ⌝ }
+{
+    if names < 2 {
+        return 0;
+    }
+    if names > 256 {
+        return 0;
+    }
+    draws::draws_for(names)
 }

@@ -1,2 +1,3 @@
 -- Laws of what the harness is told.
-pub mod Laws
+pub mod Told
+pub mod Next

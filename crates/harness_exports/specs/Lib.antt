@@ -1,2 +1,3 @@
--- What the harness is told of a call (Next.antt).
+-- What the harness is told of a call: Told.antt for the k-means leaves, Next.antt for the inner forms.
+pub mod Told
 pub mod Next

@@ -1,14 +1,125 @@
-// The inner forms by which a round runs k-means, for the harness to time. No other caller: nothing tests what they ask.
+// What the harness alone calls, to compare and to time: the square root in its two forms, the k-means leaves, and the inner forms
+// by which a round runs. The inner forms have preconditions, and nothing tests what they ask.
 ghost use mathlib.Core.Path.{_≡_};
+ghost use mathlib.Core.Bool.{cond, false};
+ghost use mathlib.Core.List.{[], _∷_};
 ghost use Prim.Native.Nat.{_≤_, _+_, _*_};
+ghost use lib.Dec.{eqb};
 ghost use lib.ListN.{length, take, drop};
+ghost use Rattle.sqrt.specs.Root.{root};
+ghost use Rattle.refusals.specs.Table.{refusal};
+ghost use Rattle.kmeans_answers.specs.Answers.{numberOf, placeOf, readOf};
+ghost use Rattle.kmeans.specs.Leaves.{plusPlusLeaf, lloydLeaf, labelsLeaf};
 ghost use Rattle.columns.specs.Columns.{pointsAt};
 ghost use Rattle.draws.specs.Counts.{seedingOf};
 ghost use Rattle.lloyd.specs.Area.{Held};
 ghost use Rattle.clustering.specs.Clustering.{kmeansOf};
 ghost use Rattle.clustering.specs.Steps.{Enough, labelsAfter};
+ghost use Rattle.harness_exports.specs.Told.{toldOf};
 ghost use Rattle.harness_exports.specs.Next.{nextAfter};
 use clustering::Clustered;
+use kmeans_answers::Kmeans;
+
+#[no_mangle]
+pub extern "C" fn onc_sqrt(x: f64) -> f64
+    ensures { λ r. ⌜ r ≡ root x ⌝ }
+{
+    sqrt::sqrt(x)
+}
+
+#[no_mangle]
+pub extern "C" fn onc_sqrt_by_digits(x: f64) -> f64
+    ensures { λ r. ⌜ r ≡ root x ⌝ }
+{
+    sqrt::sqrt_by_digits(x)
+}
+
+// 0 where the list for the answer has three places; else the number by which the call is refused: 2, 4, 5 or 6.
+fn answer_refused(cells: usize, n: usize, places: usize) -> usize
+    ensures { λ r. ⌜ r ≡ cond (eqb places 3) 0 (refusal cells n n false 0 0 .number) ⌝ }
+{
+    if places == 3 {
+        return 0;
+    }
+    refusals::number_of(refusals::check(cells, n, n, false, 0, 0))
+}
+
+// The number, the place and the draws read, in a list of three; the number.
+fn tell(a: Kmeans, answer: &mut [usize]) -> usize
+    requires { ⌜ length (now answer) ≡ 3 ⌝ }
+    ensures { λ r. ⌜ (r ≡ numberOf a) × (now (answer .exit) ≡ numberOf a ∷ placeOf a ∷ readOf a ∷ []) ⌝ }
+{
+    let number = kmeans_answers::number_of(a);
+    answer[0] = number;
+    answer[1] = kmeans_answers::place_of(a);
+    answer[2] = kmeans_answers::read_of(a);
+    number
+}
+
+#[no_mangle]
+pub extern "C" fn onc_kmeans_plus_plus(
+    points: &[f64],
+    n: usize,
+    k: usize,
+    draws: &[u64],
+    centres: &mut [usize],
+    floats: &mut [f64],
+    numbers: &mut [usize],
+    answer: &mut [usize],
+) -> usize
+    ensures { λ r. ⌜ record { number = r; answer = now (answer .exit); out = now (centres .exit); floats = now (floats .exit); numbers = now (numbers .exit) }
+        ≡ toldOf (length (now (points .entry))) n (plusPlusLeaf (now (points .entry)) n k (now (draws .entry)) (now (centres .entry)) (now (floats .entry)) (now (numbers .entry))) (now (answer .entry)) (now (centres .entry)) (now (floats .entry)) (now (numbers .entry)) ⌝ }
+{
+    let refused = answer_refused(points.len(), n, answer.len());
+    if refused != 0 {
+        return refused;
+    }
+    let a = kmeans::kmeans_plus_plus(points, n, k, draws, centres, floats, numbers);
+    tell(a, answer)
+}
+
+#[no_mangle]
+pub extern "C" fn onc_lloyd(
+    points: &[f64],
+    n: usize,
+    centres: &[usize],
+    labels: &mut [usize],
+    floats: &mut [f64],
+    numbers: &mut [usize],
+    answer: &mut [usize],
+) -> usize
+    ensures { λ r. ⌜ record { number = r; answer = now (answer .exit); out = now (labels .exit); floats = now (floats .exit); numbers = now (numbers .exit) }
+        ≡ toldOf (length (now (points .entry))) n (lloydLeaf (now (points .entry)) n (now (centres .entry)) (now (labels .entry)) (now (floats .entry)) (now (numbers .entry))) (now (answer .entry)) (now (labels .entry)) (now (floats .entry)) (now (numbers .entry)) ⌝ }
+{
+    let refused = answer_refused(points.len(), n, answer.len());
+    if refused != 0 {
+        return refused;
+    }
+    let a = kmeans::lloyd(points, n, centres, labels, floats, numbers);
+    tell(a, answer)
+}
+
+#[no_mangle]
+pub extern "C" fn onc_kmeans_labels(
+    points: &[f64],
+    n: usize,
+    k: usize,
+    draws: &[u64],
+    labels: &mut [usize],
+    floats: &mut [f64],
+    numbers: &mut [usize],
+    answer: &mut [usize],
+) -> usize
+    ensures { λ r. ⌜ record { number = r; answer = now (answer .exit); out = now (labels .exit); floats = now (floats .exit); numbers = now (numbers .exit) }
+        ≡ toldOf (length (now (points .entry))) n (labelsLeaf (now (points .entry)) n k (now (draws .entry)) (now (labels .entry)) (now (floats .entry)) (now (numbers .entry))) (now (answer .entry)) (now (labels .entry)) (now (floats .entry)) (now (numbers .entry)) ⌝ }
+{
+    let refused = answer_refused(points.len(), n, answer.len());
+    if refused != 0 {
+        return refused;
+    }
+    let a = kmeans::kmeans_labels(points, n, k, draws, labels, floats, numbers);
+    tell(a, answer)
+}
 
 // What k-means reads of the points, worked out once for every k. Inner form.
 #[no_mangle]

@@ -1,6 +1,6 @@
 use native.Mathlib.Omega.{arith}
 use borrow.Author.Needs.{needs}
-use Rattle.harness_exports.proofs.Laws.{next-done, next-stopped}
+use Rattle.harness_exports.proofs.Next.{next-done, next-stopped}
 use Rattle.harness_exports.proofs.onc_labels_in.Statement.{statement}
 use Rattle.harness_exports.proofs.onc_labels_in.Tie as tie
 

@@ -60,7 +60,7 @@ extern "C" {
         answer: *mut usize,
         answer_len: usize,
     ) -> usize;
-    // of `harness_exports`, which test nothing of what they ask
+    // inner forms, which test nothing of what they ask
     fn onc_prepare(points: *const f64, points_len: usize, m: usize, area: *mut f64, area_len: usize);
     fn onc_labels_in(
         area: *mut f64,

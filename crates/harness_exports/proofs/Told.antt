@@ -14,7 +14,7 @@ use Rattle.refusals.proofs.Laws.{accepted}
 use Rattle.kmeans_answers.specs.declared.Kmeans.{Kmeans}
 use Rattle.kmeans_answers.specs.Answers.{numberOf, placeOf, refusalOf, readOf}
 use Rattle.kmeans_answers.specs.Leaf.{Leaf}
-use Rattle.exports.specs.Told.{Told, toldOf}
+use Rattle.harness_exports.specs.Told.{Told, toldOf}
 
 three : (xs : List ℕ) (a b c : ℕ) → length xs ≡ 3 → set (set (set xs 0 a) 1 b) 2 c ≡ a ∷ b ∷ c ∷ []
 three [] a b c h = absurd (omega arith)

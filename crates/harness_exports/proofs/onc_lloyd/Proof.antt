@@ -1,7 +1,7 @@
 use borrow.Author.Needs.{needs}
-use Rattle.exports.proofs.Laws.{not-told, telling, three-places}
-use Rattle.exports.proofs.onc_lloyd.Statement.{statement}
-use Rattle.exports.proofs.onc_lloyd.Tie as tie
+use Rattle.harness_exports.proofs.Told.{not-told, telling, three-places}
+use Rattle.harness_exports.proofs.onc_lloyd.Statement.{statement}
+use Rattle.harness_exports.proofs.onc_lloyd.Tie as tie
 
 answer-refused-requires : tie.Need-answer-refused-requires
 answer-refused-requires c κs = search needs

@@ -1,0 +1,22 @@
+use borrow.Author.Needs.{needs}
+use Rattle.exports.proofs.onc_mean.Statement.{statement}
+use Rattle.exports.proofs.onc_mean.Tie as tie
+
+mean-requires : tie.Need-mean-requires
+mean-requires c κs = tt
+
+tell-average-requires : tie.Need-tell-average-requires
+tell-average-requires c κs = tt
+
+same-length : tie.Need-same-length
+same-length c = search needs
+
+same-length-2 : tie.Need-same-length-2
+same-length-2 c = search needs
+
+returns : tie.Need-returns
+returns c = rw (← c .before .before .before .before .before .before .before .mean .ensures) (c .before .before .before .before .tell-average .ensures)
+
+pub onc-mean-spec : {M : Type 1} → statement M
+onc-mean-spec =
+    tie.close (tie.spec mean-requires tell-average-requires same-length same-length-2 returns)

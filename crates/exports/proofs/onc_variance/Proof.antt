@@ -1,0 +1,22 @@
+use borrow.Author.Needs.{needs}
+use Rattle.exports.proofs.onc_variance.Statement.{statement}
+use Rattle.exports.proofs.onc_variance.Tie as tie
+
+variance-requires : tie.Need-variance-requires
+variance-requires c κs = tt
+
+tell-average-requires : tie.Need-tell-average-requires
+tell-average-requires c κs = tt
+
+same-length : tie.Need-same-length
+same-length c = search needs
+
+same-length-2 : tie.Need-same-length-2
+same-length-2 c = search needs
+
+returns : tie.Need-returns
+returns c = rw (← c .before .before .before .before .before .before .before .variance .ensures) (c .before .before .before .before .tell-average .ensures)
+
+pub onc-variance-spec : {M : Type 1} → statement M
+onc-variance-spec =
+    tie.close (tie.spec variance-requires tell-average-requires same-length same-length-2 returns)

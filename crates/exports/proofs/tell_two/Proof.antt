@@ -1,0 +1,20 @@
+use mathlib.Core.Path.{refl}
+use borrow.Author.Needs.{needs}
+use Rattle.exports.proofs.Average.{told-two}
+use Rattle.exports.proofs.tell_two.Statement.{statement}
+use Rattle.exports.proofs.tell_two.Tie as tie
+
+slice-write-answer : tie.Need-slice-write-answer
+slice-write-answer c = search needs
+
+slice-write-answer-2 : tie.Need-slice-write-answer-2
+slice-write-answer-2 c = search needs
+
+same-length : tie.Need-same-length
+same-length c = search needs
+
+returns : tie.Need-returns
+returns c = (refl, told-two (c .args .answer .now) _ _ (c .pre))
+
+pub tell-two-spec : {M : Type 1} → statement M
+tell-two-spec = tie.close (tie.spec slice-write-answer slice-write-answer-2 same-length returns)

@@ -1,0 +1,27 @@
+-- A statistic called from C: the average in a lent list of one double, the answer in a lent list of two numbers, and its number alone as
+-- the value. Definitions only.
+use Prim.Native.Nat.{ℕ}
+use mathlib.Core.Bool.{Bool, cond, _&&_}
+use mathlib.Core.List.{List, [], _∷_, _++_}
+use lib.Dec.{eqb}
+use lib.ListN.{length, drop}
+use lib.Ieee.{Float}
+use Rattle.stats.specs.Average.{Averaged}
+
+-- the value, and each list after the call
+pub record AverageTold : Type 0 where
+  pub number : ℕ
+  pub answer : List ℕ
+  pub average : List Float
+
+-- the number of a call whose lists do not fit: 4 of over 65,536 values, else 6
+abbrev pub numberWithout : Averaged → ℕ
+numberWithout a = cond (eqb (a .number) 0) 6 (a .number)
+
+-- The number and how many averages there are, 1 or 0, in `answer`; the average, where there is one, in `average`. If `answer` has another
+-- length than 2 or `average` than 1, that is an output list of wrong length, and every list is as it was.
+unfoldable pub averageTold : Averaged → List ℕ → List Float → AverageTold
+averageTold a answer average =
+    cond (eqb (length average) 1 && eqb (length answer) 2)
+    (record { number = a .number; answer = a .number ∷ length (a .values) ∷ []; average = a .values ++ drop (length (a .values)) average })
+    (record { number = numberWithout a; answer = answer; average = average })

@@ -1,0 +1,24 @@
+-- The check of a book called from C: its answer in a lent list of two numbers, and the number alone as the value. Definitions only.
+use Prim.Native.Nat.{ℕ}
+use mathlib.Core.Bool.{false, cond}
+use mathlib.Core.List.{List, [], _∷_}
+use lib.Dec.{eqb}
+use lib.ListN.{length}
+use Rattle.refusals.specs.Table.{Refusal, refused, unless, refusal}
+
+-- the value, and the list after the call
+pub record BookTold : Type 0 where
+  pub number : ℕ
+  pub answer : List ℕ
+
+-- a list of wrong length: 6, or 2, 4 or 5 by the book's shape, which come first
+unfoldable pub bookShape : ℕ → ℕ → ℕ → Refusal
+bookShape rows cols cells = unless (eqb rows cols) (refused 2) (refusal cells rows rows false 0 0)
+
+-- The number and the place of `intake`, in `answer`. If that has another length than 2 it is an output list of wrong length: the call is
+-- refused by `shape`, ahead of 21, 22 and 23, and the list is as it was.
+unfoldable pub bookTold : Refusal → Refusal → List ℕ → BookTold
+bookTold shape intake answer =
+    cond (eqb (length answer) 2)
+    (record { number = intake .number; answer = intake .number ∷ intake .place ∷ [] })
+    (record { number = shape .number; answer = answer })
