@@ -213,7 +213,9 @@ pub extern "C" fn onc_check_book(
         return refused;
     }
     let a = intake::check_book(cells, rows, cols);
-    tell_two(intake::number_of(a), intake::place_of(a), answer)
+    let number = intake::number_of(a);
+    let place = intake::place_of(a);
+    tell_two(number, place, answer)
 }
 
 // The draws that a round of so many names reads for one repeat; 0 where there is no such round.

@@ -1,4 +1,7 @@
+use mathlib.Core.Path.{_∙_, ap}
 use borrow.Author.Needs.{needs}
+use Rattle.stats.specs.Average.{Averaged}
+use Rattle.exports.specs.Average.{averageTold}
 use Rattle.exports.proofs.onc_mean.Statement.{statement}
 use Rattle.exports.proofs.onc_mean.Tie as tie
 
@@ -15,7 +18,7 @@ same-length-2 : tie.Need-same-length-2
 same-length-2 c = search needs
 
 returns : tie.Need-returns
-returns c = rw (← c .before .before .before .before .before .before .before .mean .ensures) (c .before .before .before .before .tell-average .ensures)
+returns c = c .before .before .before .before .tell-average .ensures ∙ ap (λ (a : Averaged). averageTold a (c .before .before .before .before .before .before .before .before .before .before .before .args .answer .now) (c .before .before .before .before .before .before .before .before .before .before .before .args .average .now)) (c .before .before .before .before .before .before .before .mean .ensures)
 
 pub onc-mean-spec : {M : Type 1} → statement M
 onc-mean-spec =
