@@ -3,22 +3,32 @@
 ghost use mathlib.Core.Path.{_≡_};
 ghost use mathlib.Core.Bool.{cond, false};
 ghost use mathlib.Core.List.{[], _∷_};
-ghost use Prim.Native.Nat.{_≤_, _+_, _*_};
+ghost use Prim.Native.Nat.{ℕ, _<_, _≤_, _+_, _*_};
 ghost use lib.Dec.{eqb};
 ghost use lib.ListN.{length, take, drop};
 ghost use Rattle.sqrt.specs.Root.{root};
 ghost use Rattle.refusals.specs.Table.{refusal};
 ghost use Rattle.kmeans_answers.specs.Answers.{numberOf, placeOf, readOf};
 ghost use Rattle.kmeans.specs.Leaves.{plusPlusLeaf, lloydLeaf, labelsLeaf};
+ghost use Rattle.lists.specs.Lists.{cells, numbers};
+ghost use Rattle.tstat.specs.Quality.{tstatOf};
+ghost use Rattle.distance.specs.Distance.{Readable, distAt};
+ghost use Rattle.columns.specs.Pair.{squaredAt};
 ghost use Rattle.columns.specs.Columns.{pointsAt};
+ghost use Rattle.pairs.specs.Pairs.{pairsArea};
 ghost use Rattle.draws.specs.Counts.{seedingOf};
-ghost use Rattle.lloyd.specs.Area.{Held};
+ghost use Rattle.seeding.specs.Seeding as seeds;
+ghost use Rattle.seeding.specs.Seeding.{seeding};
+ghost use Rattle.lloyd.specs.Passes.{lloydLabels};
+ghost use Rattle.lloyd.specs.Area.{Held, Centres};
 ghost use Rattle.clustering.specs.Clustering.{kmeansOf};
 ghost use Rattle.clustering.specs.Steps.{Enough, labelsAfter};
+ghost use Rattle.scoring.specs.Scoring.{scoresOf, Round};
 ghost use Rattle.harness_exports.specs.Told.{toldOf};
 ghost use Rattle.harness_exports.specs.Next.{nextAfter};
 use clustering::Clustered;
 use kmeans_answers::Kmeans;
+use seeding::Seeded;
 
 #[no_mangle]
 pub extern "C" fn onc_sqrt(x: f64) -> f64
@@ -149,4 +159,66 @@ pub extern "C" fn onc_labels_in(
         Clustered::Stopped(_stop) => 0,
         Clustered::Done(next, _ended) => next,
     }
+}
+
+// The four areas of a round, from the rows of a book. Inner form.
+#[no_mangle]
+pub extern "C" fn onc_book_pairs(book: &[f64], n: usize, rows: &[usize], area: &mut [f64])
+    requires { ⌜ Readable (now book) n (now rows) × (0 < length (now rows)) × (length (now area) ≡ 4 * (length (now rows) * length (now rows))) ⌝ }
+    ensures { λ _. ⌜ now (area .exit) ≡ pairsArea (distAt (now (book .entry)) n (now (rows .entry))) (length (now (rows .entry))) ⌝ }
+{
+    pairs::book_pairs(book, n, rows, area);
+}
+
+// As many centres as the list holds; the place of the next draw, and 0 where a draw was out of range. Inner form.
+#[no_mangle]
+pub extern "C" fn onc_seed_in(
+    area: &[f64],
+    m: usize,
+    draws: &[u64],
+    at: usize,
+    centres: &mut [usize],
+    weights: &mut [f64],
+) -> usize
+    requires { ⌜ Held (now area) m × Enough m (length (now centres)) (now draws) at × (length (now weights) ≡ m) ⌝ }
+    ensures { λ r. ⌜ (r ≡ nextAfter (at + seedingOf (length (now (centres .entry)))) (seeding (squaredAt (pointsAt (now (area .entry)) m) m) m (length (now (centres .entry))) at (drop at (now (draws .entry)))))
+        × seeds.Centres (seeding (squaredAt (pointsAt (now (area .entry)) m) m) m (length (now (centres .entry))) at (drop at (now (draws .entry)))) (now (centres .exit)) ⌝ }
+{
+    match clustering::seed_in(area, m, draws, at, centres, weights) {
+        Seeded::Stopped(_stop) => 0,
+        Seeded::Done(next) => next,
+    }
+}
+
+// The labels by Lloyd's passes from the centres. Inner form.
+#[no_mangle]
+pub extern "C" fn onc_lloyd_in(area: &mut [f64], m: usize, centres: &[usize], labels: &mut [usize])
+    requires { ⌜ Held (now area) m × Centres (now centres) m × (length (now labels) ≡ m) ⌝ }
+    ensures { λ _. ⌜ (now (labels .exit) ≡ lloydLabels (pointsAt (now (area .entry)) m) m (length (now (centres .entry))) (numbers (now (centres .entry))))
+        × (take (4 * (m * m)) (now (area .exit)) ≡ take (4 * (m * m)) (now (area .entry))) ⌝ }
+{
+    lloyd::lloyd_in(area, m, centres, labels);
+}
+
+// The score of each item, where the labels are below k. Inner form.
+#[no_mangle]
+pub extern "C" fn onc_scores_in(
+    area: &[f64],
+    m: usize,
+    labels: &[usize],
+    k: usize,
+    scores: &mut [f64],
+)
+    requires { ⌜ Round (now area) m × (length (now labels) ≡ m) × (length (now scores) ≡ m) × (k ≤ m) × ((i : ℕ) → i < m → numbers (now labels) i < k) ⌝ }
+    ensures { λ _. ⌜ now (scores .exit) ≡ scoresOf (pointsAt (now (area .entry)) m) m (numbers (now (labels .entry))) ⌝ }
+{
+    scoring::scores_in(area, m, labels, k, scores);
+}
+
+// The t-statistic of the scores. Inner form.
+#[no_mangle]
+pub extern "C" fn onc_tstat_of(scores: &[f64]) -> f64
+    ensures { λ r. ⌜ r ≡ tstatOf (cells (now (scores .entry))) (length (now (scores .entry))) ⌝ }
+{
+    tstat::tstat_value(scores)
 }
