@@ -1,0 +1,182 @@
+use crate::raw;
+use crate::refusal::{answered, Refusal};
+
+/// The most names of a book.
+const MOST: usize = 256;
+
+/// The lengths that the working lists must have at least for so many names.
+fn working(names: usize) -> (usize, usize) {
+    (8 * names * names + 256 * names, 320 * names)
+}
+
+/// A grouping of the names 0, 1, .. of a book: every name is in exactly one group, and no group is empty.
+#[derive(Clone, Debug, PartialEq)]
+pub struct Grouping {
+    order: Vec<usize>,
+    sizes: Vec<usize>,
+    scores: Vec<f64>,
+    ordered: Vec<f64>,
+    draws_read: usize,
+}
+
+impl Grouping {
+    /// How many groups there are: one at least.
+    #[allow(clippy::len_without_is_empty)]
+    pub fn len(&self) -> usize {
+        self.sizes.len()
+    }
+
+    /// How many names there are.
+    pub fn names(&self) -> usize {
+        self.order.len()
+    }
+
+    /// The groups by rising number, each as the list of its names in the group's order.
+    pub fn groups(&self) -> impl ExactSizeIterator<Item = &[usize]> {
+        let mut rest = self.order.as_slice();
+        self.sizes.iter().map(move |&size| {
+            let (group, behind) = rest.split_at(size);
+            rest = behind;
+            group
+        })
+    }
+
+    /// The number of each name's group, by name.
+    pub fn labels(&self) -> Vec<usize> {
+        let mut labels = vec![0; self.names()];
+        for (label, group) in self.groups().enumerate() {
+            for &name in group {
+                labels[name] = label;
+            }
+        }
+        labels
+    }
+
+    /// The groups one after the other.
+    pub fn order(&self) -> &[usize] {
+        &self.order
+    }
+
+    /// The size of each group.
+    pub fn sizes(&self) -> &[usize] {
+        &self.sizes
+    }
+
+    /// The silhouette score of each name, by name.
+    pub fn scores(&self) -> &[f64] {
+        &self.scores
+    }
+
+    /// The correlation matrix with rows and columns in the order of `order`, row by row.
+    pub fn ordered(&self) -> &[f64] {
+        &self.ordered
+    }
+
+    /// How many draws were read. They are the first ones of the list, and no others have a part in the answer.
+    pub fn draws_read(&self) -> usize {
+        self.draws_read
+    }
+}
+
+/// The working lists of the grouping, kept from call to call.
+///
+/// They grow to the largest book that was grouped, and a book of any size can follow any other. What a call answers depends on nothing that an earlier one left.
+#[derive(Clone, Debug, Default)]
+pub struct Grouper {
+    floats: Vec<f64>,
+    numbers: Vec<usize>,
+}
+
+impl Grouper {
+    /// A grouper that has no working lists yet.
+    pub fn new() -> Grouper {
+        Grouper::default()
+    }
+
+    /// As the function [`get_onc_clusters_with_draws`](crate::get_onc_clusters_with_draws), with this grouper's working lists.
+    pub fn get_onc_clusters_with_draws(&mut self, book: &[f64], rows: usize, cols: usize, repeat: usize, draws: &[u64]) -> Result<Grouping, Refusal> {
+        // Lists are made for a book of its length alone. The library refuses all others by 1, 2, 4 or 5 before it asks for the lists.
+        let names = if rows <= MOST && book.len() == rows * rows { rows } else { 0 };
+        let (floats, numbers) = working(names);
+        if self.floats.len() < floats {
+            self.floats.resize(floats, 0.0);
+        }
+        if self.numbers.len() < numbers {
+            self.numbers.resize(numbers, 0);
+        }
+        let mut found = Grouping {
+            order: vec![0; names],
+            sizes: vec![0; names],
+            scores: vec![0.0; names],
+            ordered: vec![0.0; names * names],
+            draws_read: 0,
+        };
+        let mut answer = [0; 4];
+        let lent = raw::Lent {
+            order: &mut found.order,
+            sizes: &mut found.sizes,
+            scores: &mut found.scores,
+            ordered: &mut found.ordered,
+            floats: &mut self.floats,
+            numbers: &mut self.numbers,
+            answer: &mut answer,
+        };
+        let number = raw::get_onc_clusters_with_draws(book, rows, cols, repeat, draws, lent);
+        let [_, place, groups, draws_read] = answer;
+        answered(number, place)?;
+        found.sizes.truncate(groups);
+        found.draws_read = draws_read;
+        Ok(found)
+    }
+}
+
+/// Groups the names of a book by ONC: k-means for every number of groups, the best silhouette t-stat, weak groups clustered again.
+///
+/// The book is a correlation matrix of 2 to 256 names, row by row; NaN and infinite cells are taken. `repeat` is 1 to 64. The random draws come in as a
+/// list: each is an index, below the names of its round, or a share, below 2^53 and meaning itself over 2^53.
+/// [`draws_enough`](crate::draws_enough) says how many are always enough, and 0 and 1 are always in range.
+///
+/// Refusals: 1, 2, 4, 5; 9, 7, 8 and 3 as the run meets them.
+///
+/// ```
+/// let book = [
+///     1.0, 0.875, 0.125, 0.125, //
+///     0.875, 1.0, 0.125, 0.125, //
+///     0.125, 0.125, 1.0, 0.875, //
+///     0.125, 0.125, 0.875, 1.0,
+/// ];
+/// let grouping = onc::get_onc_clusters_with_draws(&book, 4, 4, 1, &[0; 10])?;
+/// assert_eq!(grouping.labels(), [1, 1, 0, 0]);
+/// assert!(grouping.groups().eq([[2, 3], [0, 1]]));
+///
+/// let refused = onc::get_onc_clusters_with_draws(&book, 4, 4, 1, &[0; 9]);
+/// assert_eq!(refused, Err(onc::Refusal::TooFewDraws { read: 0 }));
+/// # Ok::<(), onc::Refusal>(())
+/// ```
+pub fn get_onc_clusters_with_draws(book: &[f64], rows: usize, cols: usize, repeat: usize, draws: &[u64]) -> Result<Grouping, Refusal> {
+    Grouper::new().get_onc_clusters_with_draws(book, rows, cols, repeat, draws)
+}
+
+/// How many draws a round of so many names reads with so many repeats; none outside 2 to 256 names and 1 to 64 repeats.
+///
+/// ```
+/// assert_eq!(onc::draws_for(4, 1), Some(10));
+/// assert_eq!(onc::draws_for(12, 2), Some(416));
+/// assert_eq!(onc::draws_for(257, 1), None);
+/// ```
+pub fn draws_for(names: usize, repeat: usize) -> Option<u64> {
+    match (raw::draws_for(names), repeat) {
+        (0, _) => None,
+        (one, 1..=64) => Some(one * repeat as u64),
+        _ => None,
+    }
+}
+
+/// How many draws are enough for every book of so many names, whatever its cells: 32 times the first round's. With so many no run ends by 7.
+///
+/// ```
+/// assert_eq!(onc::draws_enough(4, 1), Some(320));
+/// ```
+pub fn draws_enough(names: usize, repeat: usize) -> Option<u64> {
+    draws_for(names, repeat).map(|round| 32 * round)
+}
