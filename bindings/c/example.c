@@ -1,0 +1,47 @@
+/* Groups four names in two pairs, 0.875 within a pair and 0.125 across, and prints what the program `grouping` prints.
+   After `bash bindings/build.sh`, from the repository's root:
+   cc -std=c99 -Wall -Wextra -Werror -Iinclude -o target/example bindings/c/example.c target/staticlib/libexports.a */
+#include <inttypes.h>
+#include <stdio.h>
+#include <string.h>
+
+#include "onc.h"
+
+#define N 4
+#define FLOATS (8 * N * N + 256 * N)
+#define NUMBERS (320 * N)
+
+int main(void) {
+    const double book[N * N] = {
+        1.0,   0.875, 0.125, 0.125, /* */
+        0.875, 1.0,   0.125, 0.125, /* */
+        0.125, 0.125, 1.0,   0.875, /* */
+        0.125, 0.125, 0.875, 1.0,
+    };
+    const uint64_t draws[10] = {0};
+    size_t order[N], sizes[N], labels[N], answer[4];
+    double scores[N], ordered[N * N];
+    static double floats[FLOATS];
+    static size_t numbers[NUMBERS];
+    size_t number = onc_get_onc_clusters_with_draws(book, N * N, N, N, 1, draws, 10, order, N, sizes, N, scores, N, ordered,
+                                                    N * N, floats, FLOATS, numbers, NUMBERS, answer, 4);
+    if (number != 0) {
+        printf("refused %zu at %zu\n", number, answer[1]);
+        return 1;
+    }
+    printf("names %d groups %zu draws %zu\n", N, answer[2], answer[3]);
+    for (size_t group = 0, at = 0; group < answer[2]; group++) {
+        for (size_t end = at + sizes[group]; at < end; at++) {
+            labels[order[at]] = group;
+        }
+    }
+    for (size_t i = 0; i < N; i++) {
+        printf("%zu%c", labels[i], i + 1 < N ? ' ' : '\n');
+    }
+    for (size_t i = 0; i < N; i++) {
+        uint64_t bits;
+        memcpy(&bits, &scores[i], sizeof bits);
+        printf("%016" PRIx64 "%c", bits, i + 1 < N ? ' ' : '\n');
+    }
+    return 0;
+}
