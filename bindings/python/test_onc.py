@@ -243,6 +243,9 @@ class Books(Case):
         self.assertRefused(2, None, onc.group, array.array("d"), [0] * 10)
         self.assertRefused(2, None, onc.group, array.array("d", [1.0]), [0] * 10)
         self.assertRefused(4, None, onc.group, array.array("d", bytes(8 * 257 * 257)), [0] * 10)
+        # No lists are made for these: theirs would take 640 GB.
+        self.assertRefused(2, None, onc.group, memoryview(bytes(800000)).cast("d", (100000, 1)), [0] * 10)
+        self.assertRefused(2, None, onc.group, [[0.5]] * 100000, [0] * 10)
         cube = memoryview(array.array("d", [1.0] * 8)).cast("B").cast("d", (2, 2, 2))
         with self.assertRaises(ValueError):
             onc.group(cube, [0] * 10)
@@ -283,6 +286,10 @@ class Arguments(Case):
         for draws in ([-1] + [0] * 9, [0] * 9 + [2**64], [10**30] * 10, array.array("q", [-1] * 10), array.array("h", [0] * 9 + [-5])):
             with self.assertRaises(ValueError, msg=repr(draws)):
                 onc.group(PAIRS, draws)
+        for place, draw in ((0, -1), (4, 2**64)):
+            with self.assertRaisesRegex(ValueError, "draws: item {} ".format(place)):
+                onc.group(PAIRS, [0] * place + [draw] + [-2])
+        self.assertRefused(8, 0, onc.group, PAIRS, [2**63] + [0] * 9)
         with self.assertRaises(ValueError):
             onc.group(PAIRS, memoryview(array.array("Q", [0] * 10)).cast("B").cast("Q", (2, 5)))
         for draws in (None, 0, "0" * 10, bytes(10), bytearray(10), [0.0] * 10, ["0"] * 10, [None] * 10, array.array("d", [0.0] * 10), iter([0] * 10), {0: 0}):
@@ -300,6 +307,12 @@ class Arguments(Case):
                 onc.group(PAIRS, [0] * 10, repeat=repeat)
 
     def test_names(self):
+        class Endless:
+            def __getitem__(self, place):
+                return place
+
+        with self.assertRaises(TypeError):
+            onc.group(PAIRS, [0] * 10, names=Endless())
         for names in ([], list("ABC"), list("ABCDE"), list("ABCA"), [1, 2, 3, True]):
             with self.assertRaises(ValueError, msg=repr(names)):
                 onc.group(PAIRS, [0] * 10, names=names)
@@ -367,7 +380,12 @@ class Intake(Case):
         self.assertIsNone(onc.check_book(self.changed(0, 0, self.ONE)))
         for kind in "ilq":
             self.assertIsNone(onc.check_book(array.array(kind, [self.ONE, -self.ONE, -self.ONE, self.ONE])))
-        self.assertIsNone(onc.check_book([[self.ONE if i == j else 0 for j in range(256)] for i in range(256)]))
+        most = [[self.ONE if i == j else 0 for j in range(256)] for i in range(256)]
+        self.assertIsNone(onc.check_book(most))
+        most[255][254] = 1
+        self.assertImproper(23, 254, 255, most)
+        with self.assertRaises(onc.Improper):
+            onc.check_book(array.array("q", [cell for row in most for cell in row]))
 
     def test_faults_of_cells(self):
         self.assertImproper(21, 0, 2, self.changed(0, 2, self.ONE + 1))
@@ -406,7 +424,7 @@ class Draws(Case):
             self.assertEqual(onc.draws_for(names), count)
             self.assertEqual(onc.draws_for(names, 64), 64 * count)
             self.assertEqual(onc.draws_enough(names, 3), 96 * count)
-        self.assertEqual(onc.draws_for(256, 64), 13723392)
+        self.assertEqual((onc.draws_for(256, 64), onc.draws_enough(4)), (13723392, 320))
         for names, repeat in ((1, 1), (0, 1), (-1, 1), (257, 1), (2**64 + 4, 1), (4, 0), (4, 65), (4, -1)):
             self.assertIsNone(onc.draws_for(names, repeat))
             self.assertIsNone(onc.draws_enough(names, repeat))
