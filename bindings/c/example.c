@@ -8,24 +8,23 @@
 #include "onc.h"
 
 #define N 4
-#define FLOATS (8 * N * N + 256 * N)
-#define NUMBERS (320 * N)
+#define DRAWS 10
 
 int main(void) {
     const double book[N * N] = {
-        1.0,   0.875, 0.125, 0.125, /* */
-        0.875, 1.0,   0.125, 0.125, /* */
-        0.125, 0.125, 1.0,   0.875, /* */
+        1.0,   0.875, 0.125, 0.125,
+        0.875, 1.0,   0.125, 0.125,
+        0.125, 0.125, 1.0,   0.875,
         0.125, 0.125, 0.875, 1.0,
     };
-    const uint64_t draws[10] = {0};
-    size_t order[N], sizes[N], labels[N], answer[4];
+    const uint64_t draws[DRAWS] = {0};
+    size_t order[N], sizes[N], labels[N], answer[ONC_ANSWER_LENGTH];
     double scores[N], ordered[N * N];
-    static double floats[FLOATS];
-    static size_t numbers[NUMBERS];
-    size_t number = onc_get_onc_clusters_with_draws(book, N * N, N, N, 1, draws, 10, order, N, sizes, N, scores, N, ordered,
-                                                    N * N, floats, FLOATS, numbers, NUMBERS, answer, 4);
-    if (number != 0) {
+    static double floats[ONC_FLOATS(N)];
+    static size_t numbers[ONC_NUMBERS(N)];
+    size_t number = onc_get_onc_clusters_with_draws(book, N * N, N, N, 1, draws, DRAWS, order, N, sizes, N, scores, N, ordered, N * N, floats,
+                                                    ONC_FLOATS(N), numbers, ONC_NUMBERS(N), answer, ONC_ANSWER_LENGTH);
+    if (number != ONC_DONE) {
         printf("refused %zu at %zu\n", number, answer[1]);
         return 1;
     }

@@ -18,18 +18,16 @@ static int checks, failures;
 
 /* Room for the lists of up to four names, and a little behind them. */
 #define MOST 4
-#define FLOATS(n) (8 * (n) * (n) + 256 * (n))
-#define NUMBERS(n) (320 * (n))
 #define BEHIND 3
 
-static size_t order[MOST], sizes[MOST], numbers[NUMBERS(MOST) + BEHIND], answer[4];
-static double scores[MOST], ordered[MOST * MOST], floats[FLOATS(MOST) + BEHIND];
+static size_t order[MOST], sizes[MOST], numbers[ONC_NUMBERS(MOST) + BEHIND], answer[4];
+static double scores[MOST], ordered[MOST * MOST], floats[ONC_FLOATS(MOST) + BEHIND];
 
 static void fill(void) {
     for (size_t i = 0; i < MOST; i++) order[i] = sizes[i] = 999, scores[i] = 7.0;
     for (size_t i = 0; i < MOST * MOST; i++) ordered[i] = 7.0;
-    for (size_t i = 0; i < FLOATS(MOST) + BEHIND; i++) floats[i] = 7.0;
-    for (size_t i = 0; i < NUMBERS(MOST) + BEHIND; i++) numbers[i] = 999;
+    for (size_t i = 0; i < ONC_FLOATS(MOST) + BEHIND; i++) floats[i] = 7.0;
+    for (size_t i = 0; i < ONC_NUMBERS(MOST) + BEHIND; i++) numbers[i] = 999;
     for (size_t i = 0; i < 4; i++) answer[i] = 999;
 }
 
@@ -50,13 +48,13 @@ static int outputs_kept(void) {
 }
 
 static int working_kept(void) {
-    return same(floats, 0, FLOATS(MOST) + BEHIND, 7.0) && all(numbers, 0, NUMBERS(MOST) + BEHIND, 999);
+    return same(floats, 0, ONC_FLOATS(MOST) + BEHIND, 7.0) && all(numbers, 0, ONC_NUMBERS(MOST) + BEHIND, 999);
 }
 
 /* Whether the working lists are zero at the front for n names, and kept behind it. */
 static int working_wiped(size_t n) {
-    return same(floats, 0, FLOATS(n), 0.0) && same(floats, FLOATS(n), FLOATS(MOST) + BEHIND, 7.0) && all(numbers, 0, NUMBERS(n), 0) &&
-           all(numbers, NUMBERS(n), NUMBERS(MOST) + BEHIND, 999);
+    return same(floats, 0, ONC_FLOATS(n), 0.0) && same(floats, ONC_FLOATS(n), ONC_FLOATS(MOST) + BEHIND, 7.0) &&
+           all(numbers, 0, ONC_NUMBERS(n), 0) && all(numbers, ONC_NUMBERS(n), ONC_NUMBERS(MOST) + BEHIND, 999);
 }
 
 /* A call on freshly filled lists, with all the working lists lent. */
@@ -64,8 +62,8 @@ static size_t group(const double *book, size_t cells, size_t rows, size_t cols, 
                     size_t outputs) {
     fill();
     return onc_get_onc_clusters_with_draws(book, cells, rows, cols, repeat, draws, count, order, outputs, sizes, outputs, scores, outputs,
-                                           ordered, outputs * outputs, floats, FLOATS(MOST) + BEHIND, numbers, NUMBERS(MOST) + BEHIND,
-                                           answer, 4);
+                                           ordered, outputs * outputs, floats, ONC_FLOATS(MOST) + BEHIND, numbers,
+                                           ONC_NUMBERS(MOST) + BEHIND, answer, 4);
 }
 
 static int told(size_t number, size_t place, size_t groups, size_t read) {
@@ -103,8 +101,8 @@ static void grouping(void) {
     CHECK(group(ones, 4, 2, 2, 1, two, 3, 2) == 8 && told(8, 0, 0, 0) && outputs_kept() && working_wiped(2));
 
     fill();
-    CHECK(onc_get_onc_clusters_with_draws(ones, 4, 2, 2, 1, zeros, 3, order, 2, sizes, 2, scores, 2, ordered, 4, floats, FLOATS(2), numbers,
-                                          NUMBERS(2), answer, 3) == 6);
+    CHECK(onc_get_onc_clusters_with_draws(ones, 4, 2, 2, 1, zeros, 3, order, 2, sizes, 2, scores, 2, ordered, 4, floats, ONC_FLOATS(2),
+                                          numbers, ONC_NUMBERS(2), answer, 3) == 6);
     CHECK(all(answer, 0, 4, 999) && outputs_kept() && working_kept());
 }
 
