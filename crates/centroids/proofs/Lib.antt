@@ -2,3 +2,4 @@
 pub mod Means
 pub mod Members
 pub mod Single
+pub mod Tallies

@@ -2,7 +2,7 @@
 use Prim.Native.Nat.{_+_, _<_, ℕ}
 use mathlib.Core.Path.{_≡_, ap, refl, sym}
 use mathlib.Core.Logic.{by-cases}
-use mathlib.Core.Bool.{Bool, Bool·beq, false, not, true}
+use mathlib.Core.Bool.{Bool, Bool·beq, false, true}
 use mathlib.Core.List.{List}
 use native.Mathlib.Omega.{arith}
 use native.Mathlib.Decide.{decLt}
@@ -14,14 +14,6 @@ use Rattle.lists.proofs.Sums.{all-true, fold-none, fold-same, sum-same}
 use Rattle.lists.proofs.Listed.{listed-same}
 use Rattle.centroids.specs.Groups.{distances, groupSize, mean, member, sameGroup}
 use Rattle.columns.specs.Pair.{squared}
-
-pub beq-true : (y : Bool) → Bool·beq true y ≡ not (not y)
-beq-true true = refl
-beq-true false = refl
-
-pub beq-false : (y : Bool) → Bool·beq false y ≡ not y
-beq-false true = refl
-beq-false false = refl
 
 beq-eq : (a b : Bool) → Bool·beq a b ≡ true → a ≡ b
 beq-eq true true h = refl

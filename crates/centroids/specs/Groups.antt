@@ -2,7 +2,7 @@
 -- There are m items: x i c is column c of item i, and label i is its group.
 use Prim.Native.Nat.{ℕ, _*_, _≤_}
 use mathlib.Core.Path.{_≡_}
-use mathlib.Core.Bool.{Bool, false, Bool·beq}
+use mathlib.Core.Bool.{Bool, false, cond, Bool·beq}
 use mathlib.Core.List.{List}
 use lib.Dec.{eqb}
 use lib.IntN.{pos}
@@ -27,6 +27,10 @@ groupSize label m l = countIf (member label l) m
 -- group l has the same members by both lists of labels
 abbrev pub sameGroup : List ℕ → List ℕ → ℕ → ℕ → Bool
 sameGroup a b m l = allTo (λ i. Bool·beq (member (numbers a) l i) (member (numbers b) l i)) m
+
+-- 1 where it has not, else 0
+abbrev pub markOf : List ℕ → List ℕ → ℕ → ℕ → ℕ
+markOf a b m l = cond (sameGroup a b m l) 0 1
 
 -- column c of the mean of the n members of group l: their sum by rising row, times 1 / n
 abbrev pub meanOver : (ℕ → ℕ → Float) → (ℕ → ℕ) → ℕ → ℕ → ℕ → ℕ → Float

@@ -1,52 +1,57 @@
 // The members of a group by the labels of all items, and the squared distances of all items to the mean of the members.
-// No list is indexed by a label, so nothing is asked of the labels.
+// A label is tested before it is a place of a list, so nothing is asked of the labels.
 ghost use mathlib.Core.Path.{_≡_};
-ghost use mathlib.Core.Bool.{true, not, Bool·beq};
+ghost use mathlib.Core.Bool.{cond};
 ghost use Prim.Native.Nat.{ℕ, _<_, _≤_, _*_};
 ghost use lib.Dec.{eqb};
 ghost use lib.ListN.{length};
 ghost use lib.Ieee.{binary64, add, mul, div};
 ghost use Rattle.lists.specs.Lists.{listed, cells, numbers, cellAt, firstTo};
 ghost use Rattle.lists.specs.Sums.{sumIf};
-ghost use Rattle.centroids.specs.Groups.{one64, member, groupSize, sameGroup, meanOver, distances, Items};
+ghost use Rattle.centroids.specs.Groups.{one64, member, groupSize, markOf, meanOver, distances, Items};
 
-// How many items are in group l.
-pub fn group_size(labels: &[usize], l: usize) -> usize
-    ensures { λ r. ⌜ r ≡ groupSize (numbers (now (labels .entry))) (length (now (labels .entry))) l ⌝ }
+// How many items each group has, of as many groups as the list has places.
+pub fn group_sizes(labels: &[usize], sizes: &mut [usize])
+    ensures { λ _. ⌜ now (sizes .exit) ≡ listed (groupSize (numbers (now (labels .entry))) (length (now (labels .entry)))) (length (now (sizes .entry))) ⌝ }
 {
+    lists::fill_numbers(sizes, 0);
+    let k = sizes.len();
     let m = labels.len();
-    let mut n: usize = 0;
     for i in 0..m {
-        if labels[i] != l {
+        let l = labels[i];
+        if l >= k {
             continue;
         }
-        n = n + 1;
+        sizes[l] = sizes[l] + 1;
     }
-    n
 }
 
-// Whether an item whose group was a and is b joins l or leaves it.
-fn moves(a: usize, b: usize, l: usize) -> bool
-    ensures { λ r. ⌜ Bool·beq (eqb a l) (eqb b l) ≡ not r ⌝ }
+// 1 at place l, where there is such a place.
+fn mark(marks: &mut [usize], l: usize)
+    ensures { λ _. ⌜ now (marks .exit) ≡ listed (λ j. cond (eqb j l) 1 (numbers (now (marks .entry)) j)) (length (now (marks .entry))) ⌝ }
 {
-    if a == l {
-        return b != l;
+    if l >= marks.len() {
+        return;
     }
-    b == l
+    marks[l] = 1;
 }
 
-// Whether group l has the same members by both lists of labels. Inner form.
-pub fn same_group(a: &[usize], b: &[usize], l: usize) -> bool
-    requires { ⌜ length (now a) ≡ length (now b) ⌝ }
-    ensures { λ r. ⌜ r ≡ sameGroup (now (a .entry)) (now (b .entry)) (length (now (b .entry))) l ⌝ }
+// For each group 1 if an item joins or leaves it from the labels `old` to `labels`, else 0, of as many groups as the list has places. Inner form.
+pub fn mark_moved(old: &[usize], labels: &[usize], marks: &mut [usize])
+    requires { ⌜ length (now old) ≡ length (now labels) ⌝ }
+    ensures { λ _. ⌜ now (marks .exit) ≡ listed (markOf (now (old .entry)) (now (labels .entry)) (length (now (labels .entry)))) (length (now (marks .entry))) ⌝ }
 {
-    let m = b.len();
+    lists::fill_numbers(marks, 0);
+    let m = labels.len();
     for i in 0..m {
-        if moves(a[i], b[i], l) {
-            return false;
+        let a = old[i];
+        let b = labels[i];
+        if a == b {
+            continue;
         }
+        mark(marks, a);
+        mark(marks, b);
     }
-    true
 }
 
 // The first member of group l, and how many items there are where it has none.

@@ -4,12 +4,13 @@
 ghost use mathlib.Core.Path.{_≡_};
 ghost use Prim.Native.Nat.{ℕ, _<_, _≤_, _*_};
 ghost use lib.ListN.{length, take, set};
-ghost use mathlib.Core.Bool.{true};
+ghost use mathlib.Core.Bool.{true, not, _&&_};
+ghost use lib.Dec.{eqb};
 ghost use lib.Ieee.{inf};
 ghost use Rattle.lists.specs.Lists.{listed, cells, numbers};
 ghost use Rattle.columns.specs.Columns.{pointsAt};
 ghost use Rattle.nearest.specs.Nearest.{nearestTo, farthestOf};
-ghost use Rattle.centroids.specs.Groups.{meanOver, distances};
+ghost use Rattle.centroids.specs.Groups.{groupSize, meanOver, distances};
 ghost use Rattle.lloyd.specs.Passes.{moved};
 ghost use Rattle.lloyd.specs.Area.{Held, Centres, tableRow, withRow, Table, Kept, Refreshed, After, Clustered};
 
@@ -62,27 +63,22 @@ fn set_mean(area: &mut [f64], labels: &[usize], l: usize, n: usize, sums: &mut [
     lists::copy(sums, &mut area[at..end]);
 }
 
-// Row l of the table for the next centroids. An empty group takes the farthest item, a group whose members are the same
-// keeps its row, and one with a single member has that item's pair distances.
+// Row l of the table for the next centroids, n being the size of group l. An empty group takes the farthest item, and one with a single member
+// has that item's pair distances.
 fn refresh_group(
     area: &mut [f64],
-    old: &[usize],
     labels: &[usize],
     l: usize,
+    n: usize,
     dists: &mut [f64],
     sums: &mut [f64],
 )
     requires { ⌜ Held (now area) (length (now labels)) ⌝ }
-    requires { ⌜ (length (now old) ≡ length (now labels)) × (l < length (now labels)) × (length (now dists) ≡ length (now labels)) × (length (now sums) ≡ length (now labels)) ⌝ }
-    requires { ⌜ Kept (pointsAt (now area) (length (now labels))) (now area) (now old) (now labels) (length (now labels)) l ⌝ }
+    requires { ⌜ (l < length (now labels)) × (length (now dists) ≡ length (now labels)) × (length (now sums) ≡ length (now labels)) × (n ≡ groupSize (numbers (now labels)) (length (now labels)) l) ⌝ }
     ensures { λ _. ⌜ Refreshed (pointsAt (now (area .entry)) (length (now (labels .entry)))) (now (labels .entry)) (length (now (labels .entry))) l (now (dists .entry)) (now (area .entry)) (now (dists .exit)) (now (area .exit)) ⌝ }
 {
-    let n = centroids::group_size(labels, l);
     if n == 0 {
         take_farthest(area, labels.len(), l, dists);
-        return;
-    }
-    if centroids::same_group(old, labels, l) {
         return;
     }
     if n == 1 {
@@ -93,7 +89,46 @@ fn refresh_group(
     set_mean(area, labels, l, n, sums);
 }
 
-// The table for the next k centroids.
+// Whether a group of n members keeps its row: it has members, and no item joined or left it.
+fn keeps_row(n: usize, mark: usize) -> bool
+    ensures { λ r. ⌜ r ≡ not (eqb n 0) && eqb mark 0 ⌝ }
+{
+    if n == 0 {
+        return false;
+    }
+    mark == 0
+}
+
+// The table for the next k centroids. The row of a group whose members are the same is kept; `sizes` and `marks` are lists to work in.
+fn refresh_rows(
+    area: &mut [f64],
+    old: &[usize],
+    labels: &[usize],
+    k: usize,
+    dists: &mut [f64],
+    sums: &mut [f64],
+    sizes: &mut [usize],
+    marks: &mut [usize],
+)
+    requires { ⌜ Held (now area) (length (now labels)) ⌝ }
+    requires { ⌜ (length (now old) ≡ length (now labels)) × (k ≤ length (now labels)) × (length (now dists) ≡ length (now labels)) × (length (now sums) ≡ length (now labels))
+        × (length (now sizes) ≡ length (now labels)) × (length (now marks) ≡ length (now labels)) ⌝ }
+    requires { ⌜ ((l : ℕ) → l < k → Kept (pointsAt (now area) (length (now labels))) (now area) (now old) (now labels) (length (now labels)) l) ⌝ }
+    ensures { λ _. ⌜ Table (now (area .exit)) (length (now (labels .entry))) k (pointsAt (now (area .entry)) (length (now (labels .entry)))) (moved (pointsAt (now (area .entry)) (length (now (labels .entry)))) (numbers (now (labels .entry))) (cells (now (dists .entry))) (length (now (labels .entry)))) ⌝ }
+    ensures { λ _. ⌜ take (4 * (length (now (labels .entry)) * length (now (labels .entry)))) (now (area .exit)) ≡ take (4 * (length (now (labels .entry)) * length (now (labels .entry)))) (now (area .entry)) ⌝ }
+{
+    centroids::group_sizes(labels, sizes);
+    centroids::mark_moved(old, labels, marks);
+    for l in 0..k {
+        let n = sizes[l];
+        if keeps_row(n, marks[l]) {
+            continue;
+        }
+        refresh_group(area, labels, l, n, dists, sums);
+    }
+}
+
+// The same, with lists to work in.
 fn refresh(
     area: &mut [f64],
     old: &[usize],
@@ -108,9 +143,19 @@ fn refresh(
     ensures { λ _. ⌜ Table (now (area .exit)) (length (now (labels .entry))) k (pointsAt (now (area .entry)) (length (now (labels .entry)))) (moved (pointsAt (now (area .entry)) (length (now (labels .entry)))) (numbers (now (labels .entry))) (cells (now (dists .entry))) (length (now (labels .entry)))) ⌝ }
     ensures { λ _. ⌜ take (4 * (length (now (labels .entry)) * length (now (labels .entry)))) (now (area .exit)) ≡ take (4 * (length (now (labels .entry)) * length (now (labels .entry)))) (now (area .entry)) ⌝ }
 {
-    for l in 0..k {
-        refresh_group(area, old, labels, l, dists, sums);
-    }
+    let m = labels.len();
+    let mut sizes = lists::number_buffer();
+    let mut marks = lists::number_buffer();
+    refresh_rows(
+        area,
+        old,
+        labels,
+        k,
+        dists,
+        sums,
+        &mut sizes[..m],
+        &mut marks[..m],
+    );
 }
 
 // The table for the first centroids, which are items: their pair distances.
