@@ -83,7 +83,7 @@ module _ (book : List Float) (n repeat : ℕ) (draws : List ℕ) where
       y
   of-enough h (ended (DrawOutOfRange p) ms) k =
       let e : p - 0 ≡ p = omega arith in
-      (k .before, length (k .items), k .rounds, omega (arith, k .to, k .enough), subst (λ (i : ℕ). length (k .items) ≤ numbers draws i) e (k .bad))
+      (k .before, length (k .items), k .rounds, omega (arith, k .to, k .enough), k .some, subst (λ (i : ℕ). length (k .items) ≤ numbers draws i) e (k .bad))
   of-enough h (ended ClusteringFailed ms) k = tt
 
 -- the number of a call, from how its run ends

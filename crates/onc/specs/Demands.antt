@@ -102,13 +102,13 @@ pub record GroupingOf (book : List Float) (n : ℕ) (s : State) (o : Outcome) : 
   pub ordered-long : length (o .lists .ordered) ≡ n * n
   pub matrix : (i j : ℕ) → i < n → j < n → cellAt (o .lists .ordered) n i j ≡ cellAt book n (numbers (o .lists .order) i) (numbers (o .lists .order) j)
 
--- how a run with enough draws ends: in a grouping; or by 9, after 32 rounds; by 8, at the place of a draw that is not below the number of items of the
--- round that reads it (an index must be, and a share has the higher limit 2 ^ 53); or by 3. Not by 7.
+-- how a run with enough draws ends: in a grouping; or by 9, after 32 rounds; by 8, at the place of a draw that is not below the number of items, two or
+-- more, of the round that reads it (an index must be, and a share has the higher limit 2 ^ 53); or by 3. Not by 7.
 abbrev pub EndsWith : List ℕ → Run → Type 0
 EndsWith draws (done s ms read rest) = Unit
 EndsWith draws (ended Rounds ms) = length ms ≡ 32
 EndsWith draws (ended (Short k) ms) = ⊥
-EndsWith draws (ended (DrawOutOfRange p) ms) = (before : List ℕ) × (m : ℕ) × (ms ≡ before ++ (m ∷ [])) × (p < length draws) × (m ≤ numbers draws p)
+EndsWith draws (ended (DrawOutOfRange p) ms) = (before : List ℕ) × (m : ℕ) × (ms ≡ before ++ (m ∷ [])) × (p < length draws) × (2 ≤ m) × (m ≤ numbers draws p)
 EndsWith draws (ended ClusteringFailed ms) = Unit
 
 -- Demand 2. Within the limits a call answers and leaves exactly what the run of the definition gives. A list of 32 times the first round's count is

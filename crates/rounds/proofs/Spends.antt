@@ -97,7 +97,8 @@ pub record BadDraw (book : List Float) (n repeats left : ℕ) (rows : List ℕ) 
   pub from : read + totalOf repeats before ≤ p
   pub to : p < read + totalOf repeats ms
   pub enough : totalOf repeats ms ≤ length ds
-  -- it is no number of an item of that round
+  -- it is no number of an item of that round, of which there are two or more
+  pub some : 2 ≤ length items
   pub bad : length items ≤ numbers ds (p - read)
   pub count : length ms ≤ left
   pub few : Few (length rows) ms
@@ -333,6 +334,7 @@ module _ (book : List Float) (n repeats left : ℕ) (rows : List ℕ) (read : �
           from = omega (arith, y, s .from);
           to = omega (arith, z, s .to);
           enough = omega (arith, z, s .enough, remains);
+          some = s .some;
           bad = omega (arith, there, s .bad);
           count = omega (arith, s .count);
           few = few-more m (length inner) ms fewer (s .few);
@@ -391,6 +393,7 @@ module _ (book : List Float) (n repeats left : ℕ) (rows : List ℕ) (read : �
             from = omega (arith, draws-none repeats, h .0);
             to = omega (arith, one, h .1);
             enough = omega (arith, one);
+            some = some;
             bad = b;
             count = omega arith;
             few = few-one m;
