@@ -16,7 +16,7 @@ use Rattle.lists.specs.Sums.{allTo}
 use Rattle.lists.proofs.Sums.{fold-in, fold-out}
 use Rattle.lists.proofs.Listed.{getD-listed, listed-same, listed-set, listed-of}
 use Rattle.lists.proofs.Tests.{and-false, and-true, impossible}
-use Rattle.centroids.specs.Groups.{member, groupSize, sameGroup, markOf}
+use Rattle.centroids.specs.Groups.{member, groupSize, sameGroup, movedMark}
 
 -- item i is in none of the k groups, or in one of them
 pub size-skip : (label : ℕ → ℕ) (i k : ℕ) → k ≤ label i → listed (groupSize label i) k ≡ listed (groupSize label (i + 1)) k
@@ -44,9 +44,9 @@ module _ (old labels : List ℕ) (i k : ℕ) where
   unfolding allTo
   same-next l = rw add-one refl
 
-  pub mark-skip : numbers old i ≡ numbers labels i → listed (markOf old labels i) k ≡ listed (markOf old labels (i + 1)) k
+  pub mark-skip : numbers old i ≡ numbers labels i → listed (movedMark old labels i) k ≡ listed (movedMark old labels (i + 1)) k
   mark-skip e =
-      listed-same 0 (markOf old labels i) (markOf old labels (i + 1)) k
+      listed-same 0 (movedMark old labels i) (movedMark old labels (i + 1)) k
       (λ l q. rw (same-next l, e, beq-same (eqb (numbers labels i) l), and-true (sameGroup old labels i l)))
 
   -- the marks of the two groups that an item leaves and joins
@@ -61,13 +61,13 @@ module _ (old labels : List ℕ) (i k : ℕ) where
   both l false false s a b d =
       rw (ne-eqb (numbers old i) l (λ e. eqb-false l (numbers old i) b (sym e)), ne-eqb (numbers labels i) l (λ e. eqb-false l (numbers labels i) a (sym e)), and-true s)
 
-  pub mark-both : {marks : List ℕ} → marks ≡ listed (markOf old labels i) k → (numbers old i ≡ numbers labels i → ⊥) → {first second : List ℕ}
+  pub mark-both : {marks : List ℕ} → marks ≡ listed (movedMark old labels i) k → (numbers old i ≡ numbers labels i → ⊥) → {first second : List ℕ}
       → first ≡ listed (λ j. cond (eqb j (numbers old i)) 1 (numbers marks j)) k → second ≡ listed (λ j. cond (eqb j (numbers labels i)) 1 (numbers first j)) k
-      → second ≡ listed (markOf old labels (i + 1)) k
+      → second ≡ listed (movedMark old labels (i + 1)) k
   mark-both {marks} e d {first} f g =
-      g ∙ listed-same 0 (λ j. cond (eqb j (numbers labels i)) 1 (numbers first j)) (markOf old labels (i + 1)) k
+      g ∙ listed-same 0 (λ j. cond (eqb j (numbers labels i)) 1 (numbers first j)) (movedMark old labels (i + 1)) k
       (λ l q.
-      let v : numbers marks l ≡ markOf old labels i l = ap (λ (x : List ℕ). numbers x l) e ∙ getD-listed (markOf old labels i) k l 0 q in
+      let v : numbers marks l ≡ movedMark old labels i l = ap (λ (x : List ℕ). numbers x l) e ∙ getD-listed (movedMark old labels i) k l 0 q in
       let w : numbers first l ≡ cond (eqb l (numbers old i)) 1 (numbers marks l) = ap (λ (x : List ℕ). numbers x l) f ∙ getD-listed (λ j. cond (eqb j (numbers old i)) 1 (numbers marks j)) k l 0 q in
       rw (w, v, same-next l) (both l (eqb l (numbers labels i)) (eqb l (numbers old i)) (sameGroup old labels i l) refl refl d))
 
@@ -88,9 +88,9 @@ unmarked true s h = absurd (impossible h)
 unmarked false true h = (refl, refl)
 unmarked false false h = absurd (impossible h)
 
-pub not-moved : (old labels : List ℕ) (m l : ℕ) {n mark : ℕ} → n ≡ groupSize (numbers labels) m l → mark ≡ markOf old labels m l → not (eqb n 0) && eqb mark 0 ≡ true
+pub not-moved : (old labels : List ℕ) (m l : ℕ) {n mark : ℕ} → n ≡ groupSize (numbers labels) m l → mark ≡ movedMark old labels m l → not (eqb n 0) && eqb mark 0 ≡ true
     → (groupSize (numbers labels) m l ≡ 0 → ⊥) × (sameGroup old labels m l ≡ true)
 not-moved old labels m l {n} {mark} e f h =
-    let g : not (eqb (groupSize (numbers labels) m l) 0) && eqb (markOf old labels m l) 0 ≡ true = rw (← e, ← f) h in
+    let g : not (eqb (groupSize (numbers labels) m l) 0) && eqb (movedMark old labels m l) 0 ≡ true = rw (← e, ← f) h in
     let u = unmarked (eqb (groupSize (numbers labels) m l) 0) (sameGroup old labels m l) g in
     (eqb-false (groupSize (numbers labels) m l) 0 (u .0), u .1)

@@ -29,8 +29,8 @@ abbrev pub sameGroup : List ℕ → List ℕ → ℕ → ℕ → Bool
 sameGroup a b m l = allTo (λ i. Bool·beq (member (numbers a) l i) (member (numbers b) l i)) m
 
 -- 1 where it has not, else 0
-abbrev pub markOf : List ℕ → List ℕ → ℕ → ℕ → ℕ
-markOf a b m l = cond (sameGroup a b m l) 0 1
+abbrev pub movedMark : List ℕ → List ℕ → ℕ → ℕ → ℕ
+movedMark a b m l = cond (sameGroup a b m l) 0 1
 
 -- column c of the mean of the n members of group l: their sum by rising row, times 1 / n
 abbrev pub meanOver : (ℕ → ℕ → Float) → (ℕ → ℕ) → ℕ → ℕ → ℕ → ℕ → Float

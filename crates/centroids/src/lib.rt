@@ -8,7 +8,7 @@ ghost use lib.ListN.{length};
 ghost use lib.Ieee.{binary64, add, mul, div};
 ghost use Rattle.lists.specs.Lists.{listed, cells, numbers, cellAt, firstTo};
 ghost use Rattle.lists.specs.Sums.{sumIf};
-ghost use Rattle.centroids.specs.Groups.{one64, member, groupSize, markOf, meanOver, distances, Items};
+ghost use Rattle.centroids.specs.Groups.{one64, member, groupSize, movedMark, meanOver, distances, Items};
 
 // How many items each group has, of as many groups as the list has places.
 pub fn group_sizes(labels: &[usize], sizes: &mut [usize])
@@ -39,7 +39,7 @@ fn mark(marks: &mut [usize], l: usize)
 // For each group 1 if an item joins or leaves it from the labels `old` to `labels`, else 0, of as many groups as the list has places. Inner form.
 pub fn mark_moved(old: &[usize], labels: &[usize], marks: &mut [usize])
     requires { ⌜ length (now old) ≡ length (now labels) ⌝ }
-    ensures { λ _. ⌜ now (marks .exit) ≡ listed (markOf (now (old .entry)) (now (labels .entry)) (length (now (labels .entry)))) (length (now (marks .entry))) ⌝ }
+    ensures { λ _. ⌜ now (marks .exit) ≡ listed (movedMark (now (old .entry)) (now (labels .entry)) (length (now (labels .entry)))) (length (now (marks .entry))) ⌝ }
 {
     lists::fill_numbers(marks, 0);
     let m = labels.len();

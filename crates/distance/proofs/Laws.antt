@@ -7,8 +7,8 @@ use native.Mathlib.Nat.{div-add-mod'}
 use native.Mathlib.Omega.{arith}
 use lib.ListN.{length}
 use lib.Ieee.{Float, nan}
-use Rattle.lists.specs.Lists.{listed, cells, cellAt, flat, grid, firstFrom}
-use Rattle.lists.proofs.Listed.{listed-same, listed-length, getD-listed}
+use Rattle.lists.specs.Lists.{listed, cells, cellAt, grid, firstFrom}
+use Rattle.lists.proofs.Listed.{listed-same}
 use Rattle.lists.proofs.First.{from-none}
 use Rattle.refusals.proofs.Laws.{Accepted}
 use Rattle.distance.specs.Distance.{Readable}
@@ -24,10 +24,3 @@ plain-grid g book zero = listed-same nan (λ t. g (cells book t)) (λ t. g (cell
 plain-grid g book (suc n) =
     listed-same nan (λ t. g (cells book t)) (λ t. g (cellAt book (suc n) (t / suc n) (t % suc n))) (suc n * suc n)
     (λ t l. ap (λ (k : ℕ). g (cells book k)) (sym (div-add-mod' t (suc n))))
-
--- what is done to each cell of a matrix
-pub each-cell : (h : Float → Float) (g : ℕ → ℕ → Float) (m : ℕ) {xs : List Float} → xs ≡ grid g m → listed (λ t. h (cells xs t)) (length xs) ≡ grid (λ i j. h (g i j)) m
-each-cell h g m {xs} e =
-    ap (listed (λ t. h (cells xs t))) (listed-length (flat g m) (m * m) e)
-    ∙ listed-same nan (λ t. h (cells xs t)) (λ t. h (flat g m t)) (m * m)
-    (λ t l. ap h (ap (λ (x : List Float). cells x t) e ∙ getD-listed (flat g m) (m * m) t nan l))

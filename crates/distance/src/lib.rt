@@ -66,13 +66,14 @@ pub fn fill_cells(book: &[f64], n: usize, rows: &[usize], out: &mut [f64])
     }
 }
 
-// Each cell's distance in its place.
-fn to_distances(xs: &mut [f64])
-    ensures { λ _. ⌜ now (xs .exit) ≡ listed (λ t. spec.distanceOf (cells (now (xs .entry)) t)) (length (now (xs .entry))) ⌝ }
+// The distances in row i of the book that the rows make. Inner form.
+fn distance_row(book: &[f64], n: usize, rows: &[usize], i: usize, out: &mut [f64])
+    requires { ⌜ Readable (now book) n (now rows) × (i < length (now rows)) × (length (now out) ≡ length (now rows)) ⌝ }
+    ensures { λ _. ⌜ now (out .exit) ≡ listed (distAt (now (book .entry)) n (now (rows .entry)) i) (length (now (rows .entry))) ⌝ }
 {
-    let n = xs.len();
-    for t in 0..n {
-        xs[t] = distance(xs[t]);
+    let m = rows.len();
+    for j in 0..m {
+        out[j] = distance(cell_at(book, n, rows, i, j));
     }
 }
 
@@ -81,8 +82,23 @@ pub fn fill_distances(book: &[f64], n: usize, rows: &[usize], out: &mut [f64])
     requires { ⌜ Readable (now book) n (now rows) × (0 < length (now rows)) × (length (now out) ≡ length (now rows) * length (now rows)) ⌝ }
     ensures { λ _. ⌜ now (out .exit) ≡ grid (distAt (now (book .entry)) n (now (rows .entry))) (length (now (rows .entry))) ⌝ }
 {
-    fill_cells(book, n, rows, out);
-    to_distances(out);
+    let m = rows.len();
+    for i in 0..m {
+        let at = i * m;
+        let end = at + m;
+        distance_row(book, n, rows, i, &mut out[at..end]);
+    }
+}
+
+// Each cell's distance.
+fn distances_of(book: &[f64], out: &mut [f64])
+    requires { ⌜ length (now out) ≡ length (now book) ⌝ }
+    ensures { λ _. ⌜ now (out .exit) ≡ listed (λ t. spec.distanceOf (cells (now (book .entry)) t)) (length (now (book .entry))) ⌝ }
+{
+    let n = book.len();
+    for t in 0..n {
+        out[t] = distance(book[t]);
+    }
 }
 
 // The distances of a book of n names, row by row in `out`; a refusal leaves `out` as it was.
@@ -94,8 +110,7 @@ pub fn corr_to_distance(book: &[f64], n: usize, out: &mut [f64]) -> Answer
     if refusals::number_of(answer) != 0 {
         return answer;
     }
-    lists::copy(book, out);
-    to_distances(out);
+    distances_of(book, out);
     answer
 }
 

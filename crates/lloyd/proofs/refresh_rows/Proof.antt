@@ -3,7 +3,7 @@ use mathlib.Core.Path.{_∙_, _≡_, ap, sym}
 use mathlib.Core.List.{List}
 use native.Mathlib.Omega.{arith}
 use lib.ListN.{length}
-use Rattle.centroids.specs.Groups.{groupSize, markOf}
+use Rattle.centroids.specs.Groups.{groupSize, movedMark}
 use Rattle.lloyd.proofs.Turn.{Midway, kept-later, kept-step, midway-more, midway-none}
 use Rattle.lists.specs.Lists.{numbers}
 use Rattle.lloyd.specs.Area.{Held}
@@ -28,11 +28,11 @@ size-is c =
     ap (λ (x : List ℕ). numbers x (c .before .loop .l)) (c .before .before .before .before .before .before .before .before .group-sizes .ensures)
     ∙ getD-listed (groupSize (numbers (c .before .before .before .before .before .before .before .before .before .before .before .before .before .before .before .before .before .args .labels .now)) (length (c .before .before .before .before .before .before .before .before .before .before .before .before .before .before .before .before .before .args .labels .now))) (length (c .before .before .before .before .before .before .before .before .before .before .before .before .before .before .before .before .before .args .sizes .now)) (c .before .loop .l) 0 (omega (arith, c .loop-test .taken, p .1, p .4))
 
-mark-is : (c : tie.In-loop Inv-loop μ-loop) → numbers (c .before .before .before .before .mark-moved .last .1 .1 .0) (c .before .loop .l) ≡ markOf (c .before .before .before .before .before .before .before .before .before .before .before .before .before .before .before .before .before .args .old .now) (c .before .before .before .before .before .before .before .before .before .before .before .before .before .before .before .before .before .args .labels .now) (length (c .before .before .before .before .before .before .before .before .before .before .before .before .before .before .before .before .before .args .labels .now)) (c .before .loop .l)
+mark-is : (c : tie.In-loop Inv-loop μ-loop) → numbers (c .before .before .before .before .mark-moved .last .1 .1 .0) (c .before .loop .l) ≡ movedMark (c .before .before .before .before .before .before .before .before .before .before .before .before .before .before .before .before .before .args .old .now) (c .before .before .before .before .before .before .before .before .before .before .before .before .before .before .before .before .before .args .labels .now) (length (c .before .before .before .before .before .before .before .before .before .before .before .before .before .before .before .before .before .args .labels .now)) (c .before .loop .l)
 mark-is c =
     let p = c .before .before .before .before .before .before .before .before .before .before .before .before .before .before .before .before .before .pre .1 .0 in
     ap (λ (x : List ℕ). numbers x (c .before .loop .l)) (c .before .before .before .before .mark-moved .ensures)
-    ∙ getD-listed (markOf (c .before .before .before .before .before .before .before .before .before .before .before .before .before .before .before .before .before .args .old .now) (c .before .before .before .before .before .before .before .before .before .before .before .before .before .before .before .before .before .args .labels .now) (length (c .before .before .before .before .before .before .before .before .before .before .before .before .before .before .before .before .before .args .labels .now))) (length (c .before .before .before .before .before .before .before .before .before .before .before .before .before .before .before .before .before .args .marks .now)) (c .before .loop .l) 0 (omega (arith, c .loop-test .taken, p .1, p .5))
+    ∙ getD-listed (movedMark (c .before .before .before .before .before .before .before .before .before .before .before .before .before .before .before .before .before .args .old .now) (c .before .before .before .before .before .before .before .before .before .before .before .before .before .before .before .before .before .args .labels .now) (length (c .before .before .before .before .before .before .before .before .before .before .before .before .before .before .before .before .before .args .labels .now))) (length (c .before .before .before .before .before .before .before .before .before .before .before .before .before .before .before .before .before .args .marks .now)) (c .before .loop .l) 0 (omega (arith, c .loop-test .taken, p .1, p .5))
 
 -- the areas but for the table are as they were
 held : (c : tie.In-loop Inv-loop μ-loop) → Held (c .before .loop .area) (length (c .before .before .before .before .before .before .before .before .before .before .before .before .before .before .before .before .before .args .labels .now))
