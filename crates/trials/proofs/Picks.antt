@@ -1,19 +1,24 @@
 -- What a draw picks: the steps of the search, and that a pick is an item.
-use Prim.Native.Nat.{ℕ, _-_, _<_}
-use mathlib.Core.Path.{_≡_, refl, _∙_, ap}
+use Prim.Native.Nat.{ℕ, zero, suc, _-_, _<_}
+use mathlib.Core.Path.{_≡_, refl, sym, _∙_, ap}
 use mathlib.Core.Bool.{Bool, true, false, cond}
 use mathlib.Core.List.{List}
+use mathlib.Core.Logic.{⊎-elim}
+use native.Mathlib.Nat.{eq-or-lt-of-le, not-suc-le-zero}
 use native.Mathlib.Omega.{arith}
 use borrow.Author.Tests.{lt-ltb, le-ltb, ltb-true}
 use lib.Dec.{ltb}
 use lib.ListN.{length}
-use lib.Ieee.{Float, nan, lt, add, mul, binary64}
+use lib.Ieee.{Float, nan, inf, fin, lt, ne, isNan, add, mul, binary64}
 use Rattle.lists.specs.Sums.{zero64, sumTo}
 use Rattle.lists.specs.Lists.{cells, firstTo}
 use Rattle.lists.proofs.First.{first-found, first-same}
 use Rattle.lists.proofs.Listed.{length-listed, getD-listed}
 use Rattle.draws.specs.Draws.{shares, share}
-use Rattle.trials.specs.Trials.{running, firstOver, limit, pickBy, pick, Summed}
+use Rattle.lists.proofs.Tests.{impossible}
+use Rattle.lists.proofs.Floats.{ne-self}
+use Rattle.lists.proofs.Sums.{sum-same}
+use Rattle.trials.specs.Trials.{running, firstOver, limit, pickBy, pick, least, lesser, Summed}
 
 module _ (f : ℕ → Float) (x : Float) where
   -- f exceeds x at place i
@@ -62,3 +67,30 @@ pick-summed sums ws total d e =
 pub running-more : (w : ℕ → Float) (i : ℕ) {s : Float} → s ≡ sumTo w i → add binary64 s (w i) ≡ running w i
 unfolding sumTo
 running-more w i e = rw e
+
+-- where a sum is a number, so is each of its terms
+added-numbers : (x y : Float) → isNan (add binary64 x y) ≡ false → (isNan x ≡ false) × (isNan y ≡ false)
+unfolding add isNan
+added-numbers nan y h = impossible (sym h)
+added-numbers (inf s) nan h = impossible (sym h)
+added-numbers (inf s) (inf t) h = (refl, refl)
+added-numbers (inf s) (fin t n d) h = (refl, refl)
+added-numbers (fin s m e) nan h = impossible (sym h)
+added-numbers (fin s m e) (inf t) h = (refl, refl)
+added-numbers (fin s m e) (fin t n d) h = (refl, refl)
+
+terms-numbers : (w : ℕ → Float) (m : ℕ) → isNan (sumTo w m) ≡ false → (i : ℕ) → i < m → isNan (w i) ≡ false
+unfolding sumTo
+terms-numbers w zero h i l = absurd (not-suc-le-zero l)
+terms-numbers w (suc m) h i l =
+    let v = added-numbers (sumTo w m) (w m) h in
+    ⊎-elim (λ q. rw q (v .1)) (λ q. terms-numbers w m (v .0) i q) (eq-or-lt-of-le {n = i} {m = m} (omega arith))
+
+lesser-number : (a b : Float) → isNan a ≡ false → least a b ≡ lesser a b
+lesser-number a b h = rw h
+
+-- a potential where the total of the weights is a number
+pub least-sum : (w q : ℕ → Float) (m : ℕ) {total x : Float} → total ≡ sumTo w m → ne total total ≡ false → x ≡ sumTo (λ i. least (w i) (q i)) m → x ≡ sumTo (λ i. lesser (w i) (q i)) m
+least-sum w q m {total} e h s =
+    let n : isNan (sumTo w m) ≡ false = ap isNan (sym e) ∙ sym (ne-self total) ∙ h in
+    s ∙ sum-same (λ i. least (w i) (q i)) (λ i. lesser (w i) (q i)) m (λ i l. lesser-number (w i) (q i) (terms-numbers w m n i l))

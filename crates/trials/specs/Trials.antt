@@ -14,6 +14,10 @@ use Rattle.trials.specs.declared.Trial.{Trial}
 use Rattle.trials.specs.declared.Tried.{Tried}
 use Rattle.trials.specs.declared.Tried.the-variants.{Best, Stopped}
 
+-- b where it is below a
+abbrev pub least : Float → Float → Float
+least a b = cond (lt b a) b a
+
 -- the lesser of two; a NaN gives way to a number
 abbrev pub lesser : Float → Float → Float
 lesser a b = cond (lt b a) b (cond (isNan a) b a)

@@ -20,6 +20,13 @@ pub enum Tried {
     Stopped(draws::Stop),
 }
 
+// b where it is below a.
+fn least(a: f64, b: f64) -> f64
+    ensures { λ r. ⌜ r ≡ spec.least a b ⌝ }
+{
+    if b < a { b } else { a }
+}
+
 // The lesser of two, a NaN giving way.
 pub fn lesser(a: f64, b: f64) -> f64
     ensures { λ r. ⌜ r ≡ spec.lesser a b ⌝ }
@@ -117,6 +124,35 @@ fn two_potentials(weights: &[f64], a: &[f64], b: &[f64]) -> Potentials
     Potentials { first, second }
 }
 
+// The same where no weight is a NaN.
+fn two_least(weights: &[f64], a: &[f64], b: &[f64]) -> Potentials
+    requires { ⌜ (length (now a) ≡ length (now weights)) × (length (now b) ≡ length (now weights)) ⌝ }
+    ensures { λ r. ⌜ (r .first ≡ sumTo (λ i. spec.least (cells (now (weights .entry)) i) (cells (now (a .entry)) i)) (length (now (weights .entry))))
+        × (r .second ≡ sumTo (λ i. spec.least (cells (now (weights .entry)) i) (cells (now (b .entry)) i)) (length (now (weights .entry)))) ⌝ }
+{
+    let m = weights.len();
+    let mut first = 0.0;
+    let mut second = 0.0;
+    for i in 0..m {
+        let w = weights[i];
+        first = first + least(w, a[i]);
+        second = second + least(w, b[i]);
+    }
+    Potentials { first, second }
+}
+
+// Two potentials, by the total of the weights: where it is a number, no weight is a NaN.
+fn weigh_two(weights: &[f64], total: f64, a: &[f64], b: &[f64]) -> Potentials
+    requires { ⌜ (length (now a) ≡ length (now weights)) × (length (now b) ≡ length (now weights)) × (total ≡ sumTo (cells (now weights)) (length (now weights))) ⌝ }
+    ensures { λ r. ⌜ (r .first ≡ sumTo (λ i. spec.lesser (cells (now (weights .entry)) i) (cells (now (a .entry)) i)) (length (now (weights .entry))))
+        × (r .second ≡ sumTo (λ i. spec.lesser (cells (now (weights .entry)) i) (cells (now (b .entry)) i)) (length (now (weights .entry)))) ⌝ }
+{
+    if total != total {
+        return two_potentials(weights, a, b);
+    }
+    two_least(weights, a, b)
+}
+
 // What a draw picks, with its potential.
 fn try_draw(squares: &[f64], weights: &[f64], sums: &[f64], total: f64, d: u64) -> Trial
     requires { ⌜ Weighed (now squares) (now weights) × Summed (now sums) (now weights) ⌝ }
@@ -138,7 +174,7 @@ struct Two {
 }
 
 fn try_two(squares: &[f64], weights: &[f64], sums: &[f64], total: f64, c: u64, d: u64) -> Two
-    requires { ⌜ Weighed (now squares) (now weights) × Summed (now sums) (now weights) ⌝ }
+    requires { ⌜ Weighed (now squares) (now weights) × Summed (now sums) (now weights) × (total ≡ sumTo (cells (now weights)) (length (now weights))) ⌝ }
     requires { ⌜ (c < spec.limit total (length (now weights))) × (d < spec.limit total (length (now weights))) ⌝ }
     ensures { λ r. ⌜ (r .first ≡ spec.trial (table (now (squares .entry)) (length (now (weights .entry)))) (cells (now (weights .entry))) total (length (now (weights .entry))) c)
         × (r .second ≡ spec.trial (table (now (squares .entry)) (length (now (weights .entry)))) (cells (now (weights .entry))) total (length (now (weights .entry))) d) ⌝ }
@@ -146,8 +182,9 @@ fn try_two(squares: &[f64], weights: &[f64], sums: &[f64], total: f64, c: u64, d
     let m = weights.len();
     let p = pick(sums, total, c);
     let q = pick(sums, total, d);
-    let x = two_potentials(
+    let x = weigh_two(
         weights,
+        total,
         lists::row_of(squares, m, p),
         lists::row_of(squares, m, q),
     );
@@ -183,7 +220,7 @@ fn last_trial(
     end: usize,
     b: Trial,
 ) -> Tried
-    requires { ⌜ Weighed (now squares) (now weights) × Summed (now sums) (now weights) ⌝ }
+    requires { ⌜ Weighed (now squares) (now weights) × Summed (now sums) (now weights) × (total ≡ sumTo (cells (now weights)) (length (now weights))) ⌝ }
     requires { ⌜ (end ≤ from + 1) × (end ≤ length (now draws)) ⌝ }
     ensures { λ r. ⌜ r ≡ triedOf (takes (spec.limit total (length (now (weights .entry))))
         (spec.against (table (now (squares .entry)) (length (now (weights .entry)))) (cells (now (weights .entry))) total (length (now (weights .entry)))) (end - from) b from (drop from (now (draws .entry)))) ⌝ }
@@ -211,7 +248,7 @@ fn later_trials(
     more: usize,
     first: Trial,
 ) -> Tried
-    requires { ⌜ Weighed (now squares) (now weights) × Summed (now sums) (now weights) ⌝ }
+    requires { ⌜ Weighed (now squares) (now weights) × Summed (now sums) (now weights) × (total ≡ sumTo (cells (now weights)) (length (now weights))) ⌝ }
     requires { ⌜ from + more ≤ length (now draws) ⌝ }
     ensures { λ r. ⌜ r ≡ triedOf (takes (spec.limit total (length (now (weights .entry))))
         (spec.against (table (now (squares .entry)) (length (now (weights .entry)))) (cells (now (weights .entry))) total (length (now (weights .entry)))) more first from (drop from (now (draws .entry)))) ⌝ }
@@ -251,7 +288,7 @@ fn first_trials(
     more: usize,
     c: u64,
 ) -> Tried
-    requires { ⌜ Weighed (now squares) (now weights) × Summed (now sums) (now weights) ⌝ }
+    requires { ⌜ Weighed (now squares) (now weights) × Summed (now sums) (now weights) × (total ≡ sumTo (cells (now weights)) (length (now weights))) ⌝ }
     requires { ⌜ (c < spec.limit total (length (now weights))) × (0 < more) × (from + more ≤ length (now draws)) ⌝ }
     ensures { λ r. ⌜ r ≡ triedOf (takes (spec.limit total (length (now (weights .entry))))
         (spec.against (table (now (squares .entry)) (length (now (weights .entry)))) (cells (now (weights .entry))) total (length (now (weights .entry)))) more

@@ -54,7 +54,7 @@ first-trials-requires c κs =
     let a = s .args in
     let m = length (a .weights .now) in
     let v = draw-value (limit (total s) m) (a .draws .now) (a .at) (inside s) (sym (answer-is (c .before .before .before .before)) ∙ c .before .before .c .given .1) in
-    ((c .before .before .before .before .before .before .before .before .before .before .before .before .before .before .pre .0, c .before .before .before .before .before .before .before .before .sum-weights .ensures .1), (subst (λ (x : Float). c .before .before .c .given .0 .0 < limit x m) (sym (c .before .before .before .before .before .before .before .before .sum-weights .ensures .0)) (v .0), omega (arith, c .before .before .before .before .before .before .before .before .before .before .before .before .before .before .pre .1 .0), omega (arith, c .before .before .before .before .before .before .before .before .before .before .before .before .before .before .pre .1 .0, c .before .before .before .before .before .before .before .before .before .before .before .before .before .before .pre .1 .1)))
+    ((c .before .before .before .before .before .before .before .before .before .before .before .before .before .before .pre .0, c .before .before .before .before .before .before .before .before .sum-weights .ensures .1, c .before .before .before .before .before .before .before .before .sum-weights .ensures .0), (subst (λ (x : Float). c .before .before .c .given .0 .0 < limit x m) (sym (c .before .before .before .before .before .before .before .before .sum-weights .ensures .0)) (v .0), omega (arith, c .before .before .before .before .before .before .before .before .before .before .before .before .before .before .pre .1 .0), omega (arith, c .before .before .before .before .before .before .before .before .before .before .before .before .before .before .pre .1 .0, c .before .before .before .before .before .before .before .before .before .before .before .before .before .before .pre .1 .1)))
 
 same-length : tie.Need-same-length
 same-length c = search needs

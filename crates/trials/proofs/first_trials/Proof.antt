@@ -8,7 +8,6 @@ use Rattle.draws.specs.Draws.{one}
 use Rattle.trials.specs.Trials.{against, better, limit, table, trial, triedOf}
 use Rattle.lists.specs.Lists.{cells}
 use Rattle.draws.proofs.Taken.{draw-value, take-stopped, take-value}
-use Rattle.draws.proofs.Table.{at}
 use Rattle.trials.specs.declared.Trial.{Trial}
 use Rattle.trials.proofs.first_trials.Statement.{statement}
 use Rattle.trials.proofs.first_trials.Tie as tie

@@ -1,0 +1,86 @@
+use Prim.Native.Nat.{_-_, _≤_}
+use mathlib.Core.Path.{_∙_, _≡_, ap, refl}
+use native.Mathlib.Omega.{arith}
+use lib.ListN.{length}
+use lib.Ieee.{add, binary64, ofBits}
+use Rattle.trials.specs.Trials.{least}
+use Rattle.lists.specs.Sums.{sumTo}
+use Rattle.lists.specs.Lists.{cells}
+use Rattle.lists.proofs.Sums.{sum-more}
+use Rattle.trials.proofs.two_least.Statement.{statement}
+use Rattle.trials.proofs.two_least.Tie as tie
+
+abbrev Inv-loop : tie.InvT-loop
+Inv-loop weights a b m first₀ second₀ i₀ first second i = (m ≡ length weights) × (i ≤ m) × (first ≡ sumTo (λ k. least (cells weights k) (cells a k)) i) × (second ≡ sumTo (λ k. least (cells weights k) (cells b k)) i)
+
+abbrev μ-loop : tie.MeasureT-loop
+μ-loop weights a b m first₀ second₀ i₀ first second i = m - i
+
+loop-holds : tie.Need-loop-holds Inv-loop μ-loop
+unfolding sumTo ofBits
+loop-holds c = (refl, omega arith, refl, refl)
+
+mul-w : tie.Need-mul-w Inv-loop μ-loop
+mul-w c = omega arith
+
+shared-slice-read-w : tie.Need-shared-slice-read-w Inv-loop μ-loop
+shared-slice-read-w c = omega arith
+
+mul-least : tie.Need-mul-least Inv-loop μ-loop
+mul-least c = omega arith
+
+shared-slice-read-least : tie.Need-shared-slice-read-least Inv-loop μ-loop
+shared-slice-read-least c = omega arith
+
+least-requires : tie.Need-least-requires Inv-loop μ-loop
+least-requires c κs = tt
+
+mul-least-2 : tie.Need-mul-least-2 Inv-loop μ-loop
+mul-least-2 c = omega arith
+
+shared-slice-read-least-2 : tie.Need-shared-slice-read-least-2 Inv-loop μ-loop
+shared-slice-read-least-2 c = omega arith
+
+least-requires-2 : tie.Need-least-requires-2 Inv-loop μ-loop
+least-requires-2 c κs = tt
+
+add-i : tie.Need-add-i Inv-loop μ-loop
+add-i c = omega arith
+
+loop-less : tie.Need-loop-less Inv-loop μ-loop
+loop-less c = omega arith
+
+loop-again : tie.Need-loop-again Inv-loop μ-loop
+loop-again c =
+    let s = c .before .before .before .before .before .before .before .before .before .before .args in
+    let l = c .before .before .before .before .before .before .loop in (
+      refl,
+      omega arith,
+      ap (add binary64 (l .first)) (c .before .before .least .ensures) ∙ sum-more (λ k. least (cells (s .weights .now) k) (cells (s .a .now) k)) (l .i) (l .inv .2),
+      ap (add binary64 (l .second)) (c .least2 .ensures) ∙ sum-more (λ k. least (cells (s .weights .now) k) (cells (s .b .now) k)) (l .i) (l .inv .3),
+    )
+
+returns : tie.Need-returns Inv-loop μ-loop
+returns c =
+    let e : c .before .loop .i ≡ length (c .before .before .before .before .before .args .weights .now) = omega arith in
+    (rw e at (c .before .loop .inv .2), rw e at (c .before .loop .inv .3))
+
+pub two-least-spec : {M : Type 1} → statement M
+two-least-spec =
+    tie.close
+    (tie.spec
+    Inv-loop
+    μ-loop
+    loop-holds
+    mul-w
+    shared-slice-read-w
+    mul-least
+    shared-slice-read-least
+    least-requires
+    mul-least-2
+    shared-slice-read-least-2
+    least-requires-2
+    add-i
+    loop-less
+    loop-again
+    returns)
