@@ -7,16 +7,23 @@ use kmeans_harness::books::matrix;
 use kmeans_harness::random::Random;
 use openquant::onc_leaf::open;
 use rand::{install, rngs::StdRng, Control, SeedableRng, Source};
-use std::collections::BTreeMap;
+use std::collections::{BTreeMap, BTreeSet};
 
 /// What a lent list holds before a call: whole numbers 999, doubles 7.0.
 const NUMBER: u64 = 999;
 const DOUBLE: u64 = 0x401c_0000_0000_0000;
 
+fn bits_of(book: &[f64]) -> Vec<u64> {
+    book.iter().map(|x| x.to_bits()).collect()
+}
+
 #[derive(Default)]
 struct Recorder {
     counts: BTreeMap<String, usize>,
     words: usize,
+    groupings: usize,
+    /// The books that have a grouping, by their bits.
+    grouped: BTreeSet<Vec<u64>>,
 }
 
 impl Recorder {
@@ -38,6 +45,10 @@ impl Recorder {
             println!("{w:016x}");
         }
         self.words += words.len();
+        if want.outputs.is_some() {
+            self.groupings += 1;
+            self.grouped.insert(bits_of(&call.book));
+        }
         *self.counts.entry(kind.into()).or_default() += 1;
     }
     /// Writes a call with room behind the working lists, as it must be answered.
@@ -193,6 +204,27 @@ fn several_rounds(w: &mut Recorder, r: &mut Random) {
     }
 }
 
+/// Books of 2 to 4 names of every kind that are not recorded yet, until so many distinct books have a grouping.
+fn small_books(w: &mut Recorder, r: &mut Random, enough: usize) {
+    for turn in 0.. {
+        for kind in 0..KINDS {
+            let n = 2 + (kind + turn) % 3;
+            let repeat = 1 + turn % 4 / 3;
+            let book = of_kind(r, kind, n);
+            if w.grouped.contains(&bits_of(&book)) {
+                continue;
+            }
+            let (call, rounds) = seeded(r, book, n, repeat);
+            if rounds.len() <= 4 {
+                w.call(if repeat == 1 { "small books" } else { "small books, repeats" }, &call);
+            }
+        }
+        if w.grouped.len() >= enough {
+            break;
+        }
+    }
+}
+
 fn main() {
     silence();
     let mut w = Recorder::default();
@@ -200,8 +232,10 @@ fn main() {
     chosen(&mut w);
     every_kind(&mut w, &mut r);
     several_rounds(&mut w, &mut r);
+    small_books(&mut w, &mut r, 320);
     for (kind, count) in &w.counts {
         eprintln!("{count:6} {kind}");
     }
     eprintln!("{:6} runs, {} words", w.counts.values().sum::<usize>(), w.words);
+    eprintln!("{:6} groupings, of {} distinct books", w.groupings, w.grouped.len());
 }
