@@ -10,6 +10,7 @@ use lib.Ieee.{Float}
 use lib.ListN.{length, take, drop, length-append}
 use lib.Seq.{sets-eq, take-at}
 use Rattle.lists.proofs.Tests.{both}
+use Rattle.refusals.specs.Table.{Refusal, none, refused}
 use Rattle.bits.specs.Bits.{bitsOf}
 use Rattle.answer_text.specs.Stores.{Wrote}
 use Rattle.answer_text.specs.Answer.{lineText, sizesText, groupedText, Writing, writtenOf, room, mostNames, groupingFits, refusalFits}
@@ -19,7 +20,7 @@ use Rattle.answer_text.proofs.Texts.{length-sizes, length-grouped, grou
 
 -- a text that was stored from the front on, in a list that has room for it
 pub written : {d d′ w : List ℕ} {r : ℕ} (fits : Bool) → fits ≡ true → Wrote d d′ 0 w r → length w ≤ length d
-    → _≡_ {A = Writing} (record { number = 0; count = r; out = d′ }) (writtenOf fits w d)
+    → _≡_ {A = Writing} (record { refused = none; count = r; out = d′ }) (writtenOf fits w d)
 unfolding writtenOf
 written {d} {d′} {w} {r} fits e h l =
     let i : r ≡ length w = h .end ∙ zero-add (length w) in
@@ -27,7 +28,7 @@ written {d} {d′} {w} {r} fits e h l =
     rw (e, i, j)
 
 -- nothing was stored
-pub not-written : (fits : Bool) (w d : List ℕ) → fits ≡ false → _≡_ {A = Writing} (record { number = 6; count = 0; out = d }) (writtenOf fits w d)
+pub not-written : (fits : Bool) (w d : List ℕ) → fits ≡ false → _≡_ {A = Writing} (record { refused = refused 6; count = 0; out = d }) (writtenOf fits w d)
 unfolding writtenOf
 not-written fits w d e = rw e
 
@@ -104,9 +105,9 @@ front-of n k new text old a b e =
       within = rw (b, e, length-append text (drop (length text) old)) (omega arith);
     }
 
-pub in-front : (n k : ℕ) (new : List ℕ) (fits : Bool) (text old : List ℕ) → _≡_ {A = Writing} (record { number = n; count = k; out = new }) (writtenOf fits text old)
-    → fits ≡ true → InFront n k new text old
+pub in-front : (q : Refusal) (k : ℕ) (new : List ℕ) (fits : Bool) (text old : List ℕ)
+    → _≡_ {A = Writing} (record { refused = q; count = k; out = new }) (writtenOf fits text old) → fits ≡ true → InFront (q .number) k new text old
 unfolding writtenOf
-in-front n k new fits text old h e =
+in-front q k new fits text old h e =
     let g = rw e at h in
-    front-of n k new text old (ap (λ (w : Writing). w .number) g) (ap (λ (w : Writing). w .count) g) (ap (λ (w : Writing). w .out) g)
+    front-of (q .number) k new text old (ap (λ (w : Writing). w .refused .number) g) (ap (λ (w : Writing). w .count) g) (ap (λ (w : Writing). w .out) g)

@@ -5,6 +5,7 @@ use mathlib.Core.List.{List, [], _∷_, _++_, map}
 use lib.Dec.{eqb, leb}
 use lib.ListN.{length, getD, drop}
 use lib.Ieee.{Float}
+use Rattle.refusals.specs.Table.{Refusal, none, refused}
 use Rattle.bits.specs.Bits.{bitsOf}
 use Rattle.digits.specs.Digits.{numeral, widthOf, newline}
 use Rattle.digits.specs.Lines.{lineOf}
@@ -61,10 +62,17 @@ groupingFits labels scores out = leb (length labels) mostNames && (eqb (length s
 abbrev pub refusalFits : List ℕ → Bool
 refusalFits out = leb room (length out)
 
--- the table's number of an answer, 0 where the text is written; and how many bytes it takes
+-- the table's number of an answer, 0 where the text is written; its place, 0, since the table names none for 6; and how many bytes the text takes
 abbrev pub numberOf : Written → ℕ
 numberOf (Bytes n) = 0
 numberOf ListLength = 6
+
+abbrev pub placeOf : Written → ℕ
+placeOf (Bytes n) = 0
+placeOf ListLength = 0
+
+abbrev pub refusalOf : Written → Refusal
+refusalOf w = record { number = numberOf w; place = placeOf w }
 
 abbrev pub bytesOf : Written → ℕ
 bytesOf (Bytes n) = n
@@ -72,11 +80,11 @@ bytesOf ListLength = 0
 
 -- what a call answers, and what it leaves in the list that it is lent
 pub record Writing : Type 0 where
-  pub number : ℕ
+  pub refused : Refusal
   pub count : ℕ
   pub out : List ℕ
 
 -- the text in front, and behind it as it was; or 6, and the list as it was
 unfoldable pub writtenOf : Bool → List ℕ → List ℕ → Writing
 writtenOf fits text old =
-    cond fits (record { number = 0; count = length text; out = text ++ drop (length text) old }) (record { number = 6; count = 0; out = old })
+    cond fits (record { refused = none; count = length text; out = text ++ drop (length text) old }) (record { refused = refused 6; count = 0; out = old })

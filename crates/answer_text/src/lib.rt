@@ -9,7 +9,7 @@ ghost use lib.Seq.{sets};
 ghost use Rattle.bits.specs.Bits.{bitsOf};
 ghost use Rattle.digits.specs.Digits.{digits as digitsOf, placesTo, widthOf, numeral, stopOf};
 ghost use Rattle.answer_text.specs.Stores.{Wrote};
-ghost use Rattle.answer_text.specs.Answer.{lineText, sizesText, groupedText, refusedText, room, mostNames, groupingFits, refusalFits, numberOf, bytesOf, writtenOf};
+ghost use Rattle.answer_text.specs.Answer.{lineText, sizesText, groupedText, refusedText, room, mostNames, groupingFits, refusalFits, numberOf, refusalOf, bytesOf, writtenOf};
 
 // How many bytes were written, or that a list's length is wrong.
 pub enum Written {
@@ -204,8 +204,8 @@ fn grouping_fits(labels: usize, scores: usize, out: usize) -> bool
     out >= 1024
 }
 
-// Writes a grouping to the front of out: its sizes, the label of each name and the bits of its score. The labels are
-// written as they are; nothing is asked of them.
+// Writes a grouping to the front of out, as three lines: sizes, labels, scores by their bits. The labels are written as
+// they are; nothing is asked of them.
 pub fn write_grouping(
     groups: usize,
     draws: usize,
@@ -213,7 +213,7 @@ pub fn write_grouping(
     scores: &[f64],
     out: &mut [u8],
 ) -> Written
-    ensures { λ r. ⌜ record { number = numberOf r; count = bytesOf r; out = now (out .exit) }
+    ensures { λ r. ⌜ record { refused = refusalOf r; count = bytesOf r; out = now (out .exit) }
         ≡ writtenOf (groupingFits (now (labels .entry)) (now (scores .entry)) (now (out .entry))) (groupedText groups draws (now (labels .entry)) (now (scores .entry))) (now (out .entry)) ⌝ }
 {
     if grouping_fits(labels.len(), scores.len(), out.len()) {
@@ -225,7 +225,7 @@ pub fn write_grouping(
 
 // Writes a refusal to the front of out: its number and its place.
 pub fn write_refusal(number: usize, place: usize, out: &mut [u8]) -> Written
-    ensures { λ r. ⌜ record { number = numberOf r; count = bytesOf r; out = now (out .exit) }
+    ensures { λ r. ⌜ record { refused = refusalOf r; count = bytesOf r; out = now (out .exit) }
         ≡ writtenOf (refusalFits (now (out .entry))) (refusedText number place) (now (out .entry)) ⌝ }
 {
     if out.len() < 1024 {

@@ -11,8 +11,7 @@ use Rattle.lists.specs.Lists.{listed}
 use Rattle.lists.specs.Sums.{zero64}
 use Rattle.lists.proofs.Listed.{listed-length}
 use Rattle.bits.specs.Bits.{doubleOf}
-use Rattle.request_text.specs.Request.{Requested, kept, readAs, requestOf}
-use Rattle.request_text.specs.declared.Request.the-variants.{Read, Fault}
+use Rattle.request_text.specs.Request.{requestOf}
 use Rattle.request_text.specs.Written.{requestText}
 use Rattle.request_text.specs.Claim.{Limits, InLayout}
 use Rattle.request_text.proofs.Found.{filledOf, as-filled}

@@ -7,16 +7,16 @@ use native.Mathlib.Omega.{arith}
 use lib.ListN.{length, take, replicate, length-replicate}
 use lib.Ieee.{Float}
 use Rattle.lists.specs.Sums.{zero64}
-use Rattle.request_text.specs.Request.{Requested, requestOf}
+use Rattle.request_text.specs.Request.{Requested, answerOf, requestOf}
 use Rattle.request_text.specs.declared.Request.{Request}
 use Rattle.request_text.specs.declared.Request.the-variants.{Read, ListLength, Fault}
 use Rattle.request_text.proofs.Found.{Within, read-within}
 use Rattle.answer_text.specs.Answer.{refusedText}
 use Rattle.grouping_text.specs.Program.{bookText, textFor, textOf, programOf}
 
-module _ (s : List ℕ) {cells cells′ : List Float} {draws draws′ : List ℕ} {a : Request} (c : cells ≡ replicate 144 zero64) (d : draws ≡ replicate 1024 0)
-    (is : _≡_ {A = Requested} (record { answer = a; cells = cells′; draws = draws′ }) (requestOf s cells draws)) where
-  printed : textFor a cells′ draws′ ≡ programOf s
+module _ (s : List ℕ) {cells cells′ : List Float} {draws draws′ : List ℕ} (c : cells ≡ replicate 144 zero64) (d : draws ≡ replicate 1024 0) (a : Request)
+    (is : _≡_ {A = Requested} (record { answer = answerOf a; cells = cells′; draws = draws′ }) (requestOf s cells draws)) where
+  printed : textFor (answerOf a) cells′ draws′ ≡ programOf s
   unfolding programOf
   printed = ap textOf is ∙ rw (c, d)
 
@@ -32,7 +32,7 @@ module _ (s : List ℕ) {cells cells′ : List Float} {draws draws′ : List ℕ
 
     -- the sizes that were read are within the limits of the layout
     pub within : Within n repeats count
-    within = read-within s cells draws n repeats count (sym (ap (λ (q : Requested). q .answer) is) ∙ e)
+    within = read-within s cells draws n repeats count (sym (ap (λ (q : Requested). q .answer) is) ∙ ap answerOf e)
 
     pub cells-fit : length cells′ ≡ length cells → n * n ≤ length cells′
     cells-fit k =

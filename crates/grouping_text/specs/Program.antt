@@ -12,9 +12,7 @@ use Rattle.draws.specs.Stops.{stopNumber, stopPlace}
 use Rattle.partition.specs.Partition.{labelOf}
 use Rattle.rounds.specs.Round.{Run, done, ended}
 use Rattle.onc.specs.Onc.{shapeOf, runOf}
-use Rattle.request_text.specs.Request.{Requested, numberOf, requestOf}
-use Rattle.request_text.specs.declared.Request.{Request}
-use Rattle.request_text.specs.declared.Request.the-variants.{Read, ListLength, Fault}
+use Rattle.request_text.specs.Request.{Answer, Requested, requestOf}
 use Rattle.answer_text.specs.Answer.{groupedText, refusedText}
 
 -- the end of a run of n names: the label of each name is the number of the group that has it
@@ -31,10 +29,10 @@ unfoldable pub bookText : (n repeats : ℕ) → List Float → List ℕ → List
 bookText n repeats book draws = textAfter (shapeOf repeats n n (length book) true) n (runOf book n repeats draws)
 
 -- a text that is not in the layout is refused, with 11; else its book is grouped, by its draws. The lists are never too short here
-abbrev pub textFor : Request → List Float → List ℕ → List ℕ
-textFor (Read n repeats d) cells draws = bookText n repeats (take (n * n) cells) (take d draws)
-textFor ListLength cells draws = refusedText (numberOf ListLength) 0
-textFor Fault cells draws = refusedText (numberOf Fault) 0
+abbrev pub textFor : Answer → List Float → List ℕ → List ℕ
+textFor a cells draws =
+    cond (eqb (a .refused .number) 0) (bookText (a .names) (a .repeats) (take (a .names * a .names) cells) (take (a .count) draws))
+    (refusedText (a .refused .number) (a .refused .place))
 
 abbrev pub textOf : Requested → List ℕ
 textOf q = textFor (q .answer) (q .cells) (q .draws)

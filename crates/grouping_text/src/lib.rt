@@ -6,7 +6,7 @@ ghost use Rattle.partition.specs.Orders.{Sized, cut};
 ghost use Rattle.partition.specs.Partition.{labelOf};
 ghost use Rattle.lists.specs.Lists.{listed};
 ghost use Rattle.lists.specs.Sums.{zero64};
-ghost use Rattle.answer_text.specs.Answer.{groupedText, refusalFits, numberOf, bytesOf, writtenOf};
+ghost use Rattle.answer_text.specs.Answer.{groupedText, refusalFits, refusalOf, bytesOf, writtenOf};
 ghost use Rattle.grouping_text.specs.Program.{bookText, programOf};
 use answer_text::Written;
 use request_text::Request;
@@ -69,7 +69,7 @@ fn write_groups(
     out: &mut [u8],
 ) -> Written
     requires { ⌜ (length (now order) ≤ 12) × Sized (length (now order)) groups (now order) (now sizes) × (length (now scores) ≡ length (now order)) ⌝ }
-    ensures { λ r. ⌜ record { number = numberOf r; count = bytesOf r; out = now (out .exit) }
+    ensures { λ r. ⌜ record { refused = refusalOf r; count = bytesOf r; out = now (out .exit) }
         ≡ writtenOf (refusalFits (now (out .entry)))
         (groupedText groups draws (listed (labelOf (cut groups (now (sizes .entry)) (now (order .entry)))) (length (now (order .entry)))) (now (scores .entry))) (now (out .entry)) ⌝ }
 {
@@ -94,7 +94,7 @@ fn group_with(
 ) -> Written
     requires { ⌜ (n ≤ 12) × (length (now book) ≡ n * n) × (length (now order) ≡ n) × (length (now sizes) ≡ n) × (length (now scores) ≡ n) × (length (now ordered) ≡ n * n)
         × (4224 ≤ length (now floats)) × (3840 ≤ length (now numbers)) ⌝ }
-    ensures { λ r. ⌜ record { number = numberOf r; count = bytesOf r; out = now (out .exit) }
+    ensures { λ r. ⌜ record { refused = refusalOf r; count = bytesOf r; out = now (out .exit) }
         ≡ writtenOf (refusalFits (now (out .entry))) (bookText n repeats (now (book .entry)) (now (draws .entry))) (now (out .entry)) ⌝ }
 {
     let a = onc::get_onc_clusters_with_draws(
@@ -127,7 +127,7 @@ fn group_with(
 // Groups a book of at most 12 names and writes the answer.
 fn group(book: &[f64], n: usize, repeats: usize, draws: &[u64], out: &mut [u8]) -> Written
     requires { ⌜ (n ≤ 12) × (length (now book) ≡ n * n) ⌝ }
-    ensures { λ r. ⌜ record { number = numberOf r; count = bytesOf r; out = now (out .exit) }
+    ensures { λ r. ⌜ record { refused = refusalOf r; count = bytesOf r; out = now (out .exit) }
         ≡ writtenOf (refusalFits (now (out .entry))) (bookText n repeats (now (book .entry)) (now (draws .entry))) (now (out .entry)) ⌝ }
 {
     let mut order = name_list();
@@ -154,7 +154,7 @@ fn group(book: &[f64], n: usize, repeats: usize, draws: &[u64], out: &mut [u8]) 
 
 // Writes what the grouping program prints for a text to the front of `out`, which has room for at least 1,024 bytes; else it is as it was.
 pub fn answer_to(text: &[u8], out: &mut [u8]) -> Written
-    ensures { λ r. ⌜ record { number = numberOf r; count = bytesOf r; out = now (out .exit) }
+    ensures { λ r. ⌜ record { refused = refusalOf r; count = bytesOf r; out = now (out .exit) }
         ≡ writtenOf (refusalFits (now (out .entry))) (programOf (now (text .entry))) (now (out .entry)) ⌝ }
 {
     let mut cells = cell_list();

@@ -4,10 +4,10 @@ use Prim.Native.Nat.{ℕ}
 use lib.Ieee.{Float}
 use mathlib.Core.List.{List}
 use Rattle.request_text.specs.declared.Layout.the-variants.{NotFound, Found}
+use Rattle.refusals.specs.Table.{refused}
 use Rattle.request_text.specs.Request.{Requested, kept, requestOf}
 use Rattle.request_text.specs.Claim.{InLayout, LayoutClaim}
 use Rattle.request_text.specs.Layout.{cellForm, drawForm, layoutOf, valueOf}
-use Rattle.request_text.specs.declared.Request.the-variants.{Fault}
 use Rattle.request_text.specs.declared.Layout.{Layout}
 use Rattle.request_text.proofs.Found.{fault-gives}
 use Rattle.request_text.proofs.Sound.{sound, sound-limits, widthAt}
@@ -28,11 +28,11 @@ found-in s n r d p q e =
       text = sound s n r d p q e;
     }
 
-layout-sound : (s : List ℕ) (cells : List Float) (draws : List ℕ) (l : Layout) → layoutOf s ≡ l → (requestOf s cells draws .answer ≡ Fault → ⊥) → InLayout s
+layout-sound : (s : List ℕ) (cells : List Float) (draws : List ℕ) (l : Layout) → layoutOf s ≡ l → (requestOf s cells draws .answer .refused .number ≡ 11 → ⊥) → InLayout s
 layout-sound s cells draws (Found n r d p q) e h = found-in s n r d p q e
-layout-sound s cells draws NotFound e h = absurd (h (ap (λ (x : Requested). x .answer) (fault-gives s cells draws e)))
+layout-sound s cells draws NotFound e h = absurd (h (ap (λ (x : Requested). x .answer .refused .number) (fault-gives s cells draws e)))
 
-layout-other : (s : List ℕ) (l : Layout) → layoutOf s ≡ l → (InLayout s → ⊥) → (cells : List Float) (draws : List ℕ) → requestOf s cells draws ≡ kept Fault cells draws
+layout-other : (s : List ℕ) (l : Layout) → layoutOf s ≡ l → (InLayout s → ⊥) → (cells : List Float) (draws : List ℕ) → requestOf s cells draws ≡ kept (refused 11) cells draws
 layout-other s (Found n r d p q) e h cells draws = absurd (h (found-in s n r d p q e))
 layout-other s NotFound e h cells draws = fault-gives s cells draws e
 

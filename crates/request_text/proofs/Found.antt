@@ -19,7 +19,8 @@ use Rattle.bits.specs.Bits.{doubleOf}
 use Rattle.lists.proofs.Listed.{listed-same}
 use Rattle.lists.proofs.Tests.{or-true}
 use Rattle.request_text.specs.Layout.{cellForm, drawForm, emptyAt, fieldOk, headOf, layoutOf, lineAt, listsOf, plain, smallAt, startOf, thenHead, thenLine, thenSmall, valueOf}
-use Rattle.request_text.specs.Request.{Requested, kept, readAs, requestOf}
+use Rattle.refusals.specs.Table.{refused}
+use Rattle.request_text.specs.Request.{Answer, Requested, kept, readAs, refusing, requestOf, sizesRead}
 use Rattle.request_text.specs.declared.Form.{Form}
 use Rattle.request_text.specs.declared.Small.{Small}
 use Rattle.request_text.specs.declared.Small.the-variants.{Number, NoNumber}
@@ -29,7 +30,6 @@ use Rattle.request_text.specs.declared.Head.{Head}
 use Rattle.request_text.specs.declared.Head.the-variants.{NoSizes, Sizes}
 use Rattle.request_text.specs.declared.Layout.{Layout}
 use Rattle.request_text.specs.declared.Layout.the-variants.{NotFound, Found}
-use Rattle.request_text.specs.declared.Request.the-variants.{Fault, ListLength, Read}
 
 pub clash : {X : Type 0} → _≡_ {A = ℕ} 0 1 → X
 clash z = let y : ⊥ = omega arith in absurd y
@@ -163,14 +163,14 @@ as-same n r d c c′ w w′ e f cells draws =
 -- the doubles and the draws in front of the lists
 abbrev pub filledOf : ℕ → ℕ → ℕ → (ℕ → ℕ) → (ℕ → ℕ) → List Float → List ℕ → Requested
 filledOf n r d c w cells draws =
-    record { answer = Read n r d; cells = listed (λ t. doubleOf (c t)) (n * n) ++ drop (n * n) cells; draws = listed w d ++ drop d draws }
+    record { answer = sizesRead n r d; cells = listed (λ t. doubleOf (c t)) (n * n) ++ drop (n * n) cells; draws = listed w d ++ drop d draws }
 
 module _ (n r d : ℕ) (c w : ℕ → ℕ) (cells : List Float) (draws : List ℕ) where
-  pub as-few-cells : length cells < n * n → readAs n r d c w cells draws ≡ kept ListLength cells draws
+  pub as-few-cells : length cells < n * n → readAs n r d c w cells draws ≡ kept (refused 6) cells draws
   unfolding readAs
   as-few-cells h = rw (lt-ltb (length cells) (n * n) h)
 
-  pub as-few-draws : length draws < d → readAs n r d c w cells draws ≡ kept ListLength cells draws
+  pub as-few-draws : length draws < d → readAs n r d c w cells draws ≡ kept (refused 6) cells draws
   unfolding readAs
   as-few-draws h = rw (lt-ltb (length draws) d h, or-true (ltb (length cells) (n * n)))
 
@@ -179,7 +179,7 @@ module _ (n r d : ℕ) (c w : ℕ → ℕ) (cells : List Float) (draws : List �
   as-filled h l = rw (le-ltb (length cells) (n * n) h, le-ltb (length draws) d l)
 
 module _ (s : List ℕ) (cells : List Float) (draws : List ℕ) where
-  pub fault-gives : layoutOf s ≡ NotFound → requestOf s cells draws ≡ kept Fault cells draws
+  pub fault-gives : layoutOf s ≡ NotFound → requestOf s cells draws ≡ kept (refused 11) cells draws
   unfolding requestOf
   fault-gives e = rw e
 
@@ -198,23 +198,23 @@ pub record ReadFrom (s : List ℕ) (cells : List Float) (draws : List ℕ) (n r 
   pub draws-fit : d ≤ length draws
   pub gives : requestOf s cells draws ≡ filledOf n r d (valueOf cellForm s p) (valueOf drawForm s q) cells draws
 
--- the answer of a text that is not in the layout, and of one for which a list is too short, is no Read
-fault-unread : {X : Type 0} (n r d : ℕ) → Fault ≡ Read n r d → X
-fault-unread n r d e = let z : _≡_ {A = ℕ} 0 1 = cc in clash z
+-- a refusal is no request that was read
+not-read : {X : Type 0} (k n r d : ℕ) → 0 < k → refusing (refused k) ≡ sizesRead n r d → X
+not-read k n r d h e =
+    let z : k ≡ 0 = ap (λ (a : Answer). a .refused .number) e in
+    let y : ⊥ = omega arith in
+    absurd y
 
-short-unread : {X : Type 0} (n r d : ℕ) → ListLength ≡ Read n r d → X
-short-unread n r d e = let z : _≡_ {A = ℕ} 0 1 = cc in clash z
-
-moved-read : (s : List ℕ) (cells : List Float) (draws : List ℕ) (n r d n′ r′ d′ : ℕ) → Read n r d ≡ Read n′ r′ d′
+moved-read : (s : List ℕ) (cells : List Float) (draws : List ℕ) (n r d n′ r′ d′ : ℕ) → sizesRead n r d ≡ sizesRead n′ r′ d′
     → ReadFrom s cells draws n r d → ReadFrom s cells draws n′ r′ d′
 moved-read s cells draws n r d n′ r′ d′ e h =
-    let x : n ≡ n′ = cc in
-    let y : r ≡ r′ = cc in
-    let z : d ≡ d′ = cc in
+    let x : n ≡ n′ = ap (λ (a : Answer). a .names) e in
+    let y : r ≡ r′ = ap (λ (a : Answer). a .repeats) e in
+    let z : d ≡ d′ = ap (λ (a : Answer). a .count) e in
     rw (← x, ← y, ← z) h
 
-module _ (s : List ℕ) (cells : List Float) (draws : List ℕ) (n r d : ℕ) (h : requestOf s cells draws .answer ≡ Read n r d) where
-  answers : (x : Requested) → requestOf s cells draws ≡ x → x .answer ≡ Read n r d
+module _ (s : List ℕ) (cells : List Float) (draws : List ℕ) (n r d : ℕ) (h : requestOf s cells draws .answer ≡ sizesRead n r d) where
+  answers : (x : Requested) → requestOf s cells draws ≡ x → x .answer ≡ sizesRead n r d
   answers x e = sym (ap (λ (y : Requested). y .answer) e) ∙ h
 
   read-cases : (l : Layout) → layoutOf s ≡ l → ReadFrom s cells draws n r d
@@ -223,16 +223,16 @@ module _ (s : List ℕ) (cells : List Float) (draws : List ℕ) (n r d : ℕ) (h
       let w = valueOf drawForm s q in
       let g = found-gives s cells draws n′ r′ d′ p q e in
       by-cases (decLt (length cells) (n′ * n′))
-      (λ y. short-unread n r d (answers (kept ListLength cells draws) (g ∙ as-few-cells n′ r′ d′ c w cells draws y)))
+      (λ y. not-read 6 n r d (omega arith) (answers (kept (refused 6) cells draws) (g ∙ as-few-cells n′ r′ d′ c w cells draws y)))
       (λ y. by-cases (decLt (length draws) d′)
-      (λ z. short-unread n r d (answers (kept ListLength cells draws) (g ∙ as-few-draws n′ r′ d′ c w cells draws z)))
+      (λ z. not-read 6 n r d (omega arith) (answers (kept (refused 6) cells draws) (g ∙ as-few-draws n′ r′ d′ c w cells draws z)))
       (λ z.
       let i : n′ * n′ ≤ length cells = omega arith in
       let j : d′ ≤ length draws = omega arith in
       let k = g ∙ as-filled n′ r′ d′ c w cells draws i j in
       moved-read s cells draws n′ r′ d′ n r d (answers (filledOf n′ r′ d′ c w cells draws) k)
       (record { p = p; q = q; found = e; sizes = accepted s n′ r′ d′ p q e .sizes; cells-fit = i; draws-fit = j; gives = k })))
-  read-cases NotFound e = fault-unread n r d (answers (kept Fault cells draws) (fault-gives s cells draws e))
+  read-cases NotFound e = not-read 11 n r d (omega arith) (answers (kept (refused 11) cells draws) (fault-gives s cells draws e))
 
   pub read-from : ReadFrom s cells draws n r d
   read-from = read-cases (layoutOf s) refl
@@ -250,7 +250,7 @@ as-lent f s l p n h e = rw (length-take-le n l h) e
 pub read-all : (s : List ℕ) (cells : List Float) (draws : List ℕ) (n r d p q : ℕ) → layoutOf s ≡ Found n r d p q → n * n ≤ length cells → d ≤ length draws
     → (cs : List Float) (ds : List ℕ) → cs ≡ listed (λ t. doubleOf (valueOf cellForm s p t)) (length (take (n * n) cells))
     → ds ≡ listed (valueOf drawForm s q) (length (take d draws))
-    → record { answer = Read n r d; cells = cs ++ drop (n * n) cells; draws = ds ++ drop d draws } ≡ requestOf s cells draws
+    → record { answer = sizesRead n r d; cells = cs ++ drop (n * n) cells; draws = ds ++ drop d draws } ≡ requestOf s cells draws
 read-all s cells draws n r d p q e hc hd cs ds ec ed =
     rw (ec, ed, length-take-le (n * n) cells hc, length-take-le d draws hd)
     (sym (found-gives s cells draws n r d p q e ∙ as-filled n r d (valueOf cellForm s p) (valueOf drawForm s q) cells draws hc hd))

@@ -4,9 +4,9 @@ use mathlib.Core.Path.{_≡_}
 use mathlib.Core.List.{List}
 use lib.ListN.{length}
 use lib.Ieee.{Float}
+use Rattle.refusals.specs.Table.{refused}
 use Rattle.request_text.specs.Request.{Requested, kept, readAs, requestOf}
 use Rattle.request_text.specs.Written.{requestText}
-use Rattle.request_text.specs.declared.Request.the-variants.{Fault}
 
 -- what a text of the layout may say: n names, r repeats, d draws, the bits of the cells, and draw t with width t digits
 pub record Limits (n r d : ℕ) (cell width draw : ℕ → ℕ) : Type 0 where
@@ -33,11 +33,11 @@ pub record LayoutClaim : Type 0 where
   -- a text of the layout is read as what it says
   pub complete : (n r d : ℕ) (cell width draw : ℕ → ℕ) → Limits n r d cell width draw → (cells : List Float) (draws : List ℕ)
       → requestOf (requestText n r d cell width draw) cells draws ≡ readAs n r d cell draw cells draws
-  -- a text with another answer than Fault is in the layout, and is read as what it says
-  pub sound : (s : List ℕ) (cells : List Float) (draws : List ℕ) → (requestOf s cells draws .answer ≡ Fault → ⊥) → InLayout s
+  -- a text that is not refused by 11 is in the layout, and is read as what it says
+  pub sound : (s : List ℕ) (cells : List Float) (draws : List ℕ) → (requestOf s cells draws .answer .refused .number ≡ 11 → ⊥) → InLayout s
   pub values : (s : List ℕ) (l : InLayout s) (cells : List Float) (draws : List ℕ)
       → requestOf s cells draws ≡ readAs (l .n) (l .r) (l .d) (l .cell) (l .draw) cells draws
-  -- every other text is a Fault, with both lists as they were
-  pub other : (s : List ℕ) → (InLayout s → ⊥) → (cells : List Float) (draws : List ℕ) → requestOf s cells draws ≡ kept Fault cells draws
+  -- every other text is refused by 11, with both lists as they were
+  pub other : (s : List ℕ) → (InLayout s → ⊥) → (cells : List Float) (draws : List ℕ) → requestOf s cells draws ≡ kept (refused 11) cells draws
   -- and so is a text of more than 22,990 bytes
-  pub long : (s : List ℕ) → 22990 < length s → (cells : List Float) (draws : List ℕ) → requestOf s cells draws ≡ kept Fault cells draws
+  pub long : (s : List ℕ) → 22990 < length s → (cells : List Float) (draws : List ℕ) → requestOf s cells draws ≡ kept (refused 11) cells draws

@@ -9,7 +9,7 @@ ghost use Rattle.lists.specs.Sums.{allTo};
 ghost use Rattle.bits.specs.Bits.{doubleOf};
 ghost use Rattle.digits.specs.Digits.{runOf, spelled};
 ghost use Rattle.request_text.specs.Layout.{plain as plainOf, smallAt, headOf, cellForm, drawForm, lineAt, emptyAt, listsOf, layoutOf, fieldOk, valueOf};
-ghost use Rattle.request_text.specs.Request.{numberOf, requestOf};
+ghost use Rattle.request_text.specs.Request.{numberOf, answerOf, requestOf};
 
 // What a request says; or the table's row for a list that is too short, and for a text that is not in the layout.
 pub enum Request {
@@ -268,7 +268,7 @@ fn fill_draws(text: &[u8], at: usize, out: &mut [u64])
 // Reads a request: the doubles of the cells and the draws go to the front of the two lists. A text that is not in the
 // layout, or that says more than the lists take, leaves both as they were.
 pub fn read_request(text: &[u8], cells: &mut [f64], draws: &mut [u64]) -> Request
-    ensures { λ r. ⌜ record { answer = r; cells = now (cells .exit); draws = now (draws .exit) } ≡ requestOf (now (text .entry)) (now (cells .entry)) (now (draws .entry)) ⌝ }
+    ensures { λ r. ⌜ record { answer = answerOf r; cells = now (cells .exit); draws = now (draws .exit) } ≡ requestOf (now (text .entry)) (now (cells .entry)) (now (draws .entry)) ⌝ }
 {
     match layout_of(text) {
         Layout::NotFound => Request::Fault,

@@ -10,7 +10,7 @@ use Rattle.lists.specs.Lists.{part}
 use Rattle.lists.proofs.Parts.{tail-is}
 use Rattle.words.specs.Words.{sizeFrom}
 use Rattle.answer_text.specs.declared.Written.{Written}
-use Rattle.answer_text.specs.Answer.{room, refusalFits, numberOf, bytesOf, Writing, writtenOf}
+use Rattle.answer_text.specs.Answer.{room, refusalFits, refusalOf, bytesOf, Writing, writtenOf}
 use Rattle.answer_text.proofs.Front.{in-front, refusal-fits}
 use Rattle.grouping_text.specs.Program.{programOf}
 use Rattle.texts.specs.declared.Case.{Case}
@@ -29,9 +29,9 @@ pub record Printed (n : ℕ) (out text : List ℕ) : Type 0 where
   pub front : take n out ≡ programOf text
 
 pub printed : (text old new : List ℕ) (w : Written) {n : ℕ} → room ≤ length old
-    → _≡_ {A = Writing} (record { number = numberOf w; count = bytesOf w; out = new }) (writtenOf (refusalFits old) (programOf text) old) → n ≡ bytesOf w → Printed n new text
+    → _≡_ {A = Writing} (record { refused = refusalOf w; count = bytesOf w; out = new }) (writtenOf (refusalFits old) (programOf text) old) → n ≡ bytesOf w → Printed n new text
 printed text old new w h e k =
-    let i = in-front (numberOf w) (bytesOf w) new (refusalFits old) (programOf text) old e (refusal-fits old h) in
+    let i = in-front (refusalOf w) (bytesOf w) new (refusalFits old) (programOf text) old e (refusal-fits old h) in
     record { within = rw k (i .within); front = rw k (i .front) }
 
 pub right-text : (text answer : List ℕ) {n : ℕ} {out : List ℕ} {r : Bool} → Printed n out text → r ≡ sameBytes (take n out) answer → r ≡ rightText text answer

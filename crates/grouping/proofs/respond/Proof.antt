@@ -7,7 +7,7 @@ use lib.ListN.{length}
 use lib.Seq.{length-take-le}
 use borrow.Author.Needs.{needs}
 use Rattle.grouping_text.specs.Program.{programOf}
-use Rattle.answer_text.specs.Answer.{Writing, bytesOf, numberOf, refusalFits, writtenOf}
+use Rattle.answer_text.specs.Answer.{Writing, bytesOf, refusalFits, refusalOf, writtenOf}
 use Rattle.answer_text.proofs.Front.{in-front, refusal-fits}
 use Rattle.answer_text.specs.declared.Written.{Written}
 use Rattle.grouping.proofs.respond.Statement.{statement}
@@ -18,8 +18,8 @@ room old e = refusal-fits old (omega (arith, e))
 
 -- what was written is within the buffer
 within : (text old new : List ℕ) (w : Written) {k : ℕ} → 4096 ≡ length old
-    → _≡_ {A = Writing} (record { number = numberOf w; count = bytesOf w; out = new }) (writtenOf (refusalFits old) (programOf text) old) → k ≡ bytesOf w → k ≤ length new
-within text old new w e h b = rw b (in-front (numberOf w) (bytesOf w) new (refusalFits old) (programOf text) old h (room old e) .within)
+    → _≡_ {A = Writing} (record { refused = refusalOf w; count = bytesOf w; out = new }) (writtenOf (refusalFits old) (programOf text) old) → k ≡ bytesOf w → k ≤ length new
+within text old new w e h b = rw b (in-front (refusalOf w) (bytesOf w) new (refusalFits old) (programOf text) old h (room old e) .within)
 
 buffer-requires : tie.Need-buffer-requires
 buffer-requires c κs = search needs
