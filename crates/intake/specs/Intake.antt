@@ -56,7 +56,8 @@ unfoldable pub onDiagonal : ℤ → Bool → Bool
 onDiagonal x true = sameZ x (pos million)
 onDiagonal x false = true
 
--- the cause of a cell x with the mirror y: 21 range, 22 diagonal, 23 mirror, in that order; 0 for none
+-- the cause of a cell x with the mirror y: 21 where x is out of range, else 22 where it may not stand on the diagonal, else 23 where y is another
+-- number; 0 for none
 unfoldable pub causeOf : ℤ → ℤ → Bool → ℕ
 causeOf x y diagonal = cond (inRange x) (cond (onDiagonal x diagonal) (cond (sameZ x y) 0 23) 22) 21
 

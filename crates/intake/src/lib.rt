@@ -72,7 +72,7 @@ fn on_diagonal(x: i64, diagonal: bool) -> bool
     true
 }
 
-// The cause for which a cell x with the mirror y is turned away, and 0 where there is none.
+// The cause for which a cell x with the mirror y is refused, and 0 where there is none.
 fn cause_of(x: i64, y: i64, diagonal: bool) -> usize
     ensures { λ r. ⌜ r ≡ causeOf x y diagonal ⌝ }
 {

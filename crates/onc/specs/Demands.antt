@@ -20,7 +20,8 @@ use Rattle.improve.specs.Improve.{weakItems}
 use Rattle.rounds.specs.Round.{Run, done, ended, needOf, rowsOf, totalOf}
 use Rattle.onc.specs.Onc.{Answer, Lists, Outcome, listsFit, refusing, runOf, ran, groupOf}
 
--- what a call returns and leaves in its outputs
+-- what a call returns and leaves in its outputs. No list of labels is lent: the label of a name is the number of the group that has it, which
+-- follows from the count of groups in the answer, the sizes and the order (`cut`), so outputs that are equal give equal labels
 pub record Outputs : Type 0 where
   pub answer : Answer
   pub order : List ℕ
@@ -88,8 +89,8 @@ pub data Demand1 (book : List Float) (rows cols repeat : ℕ) (o : Outcome) (l :
   not-ended : rows ≡ cols → Within book rows repeat l → has (9 ∷ 7 ∷ 8 ∷ 3 ∷ []) (o .answer .refused .number) ≡ true → o .answer ≡ refusing (o .answer .refused)
       → outputs o ≡ untouched o l → Wiped rows o l → Demand1 book rows cols repeat o l
 
--- the answer and the outputs are those of the definition's partition s: no group is empty, the groups are numbered without a gap, each name is in exactly
--- one, and the ordered matrix is the book under the groups one after the other
+-- the answer and the outputs are those of the definition's partition s: a name belongs to one group and to no other, each number below the count of groups is
+-- that of a group with a member, and the ordered matrix has the book's rows and columns group by group
 pub record GroupingOf (book : List Float) (n : ℕ) (s : State) (o : Outcome) : Type 0 where
   pub not-refused : o .answer .refused .number ≡ 0
   pub partition : Partition n (s .groups)

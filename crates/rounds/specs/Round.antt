@@ -1,4 +1,4 @@
--- The rounds of a run: the first, over all names, and each re-clustering of the items of weak groups. Definitions only.
+-- The rounds of a run: one on the whole book, then one more each time that weak groups are clustered again. Definitions only.
 use Prim.Native.Nat.{ℕ, zero, suc, _+_, _*_}
 use mathlib.Core.Bool.{cond}
 use mathlib.Core.List.{List, [], _∷_, map}

@@ -18,7 +18,7 @@ sameBits x y = not (isNan x) && eqb (toBits binary64 x) (toBits binary64 y)
 unfoldable pub constant : (ℕ → Float) → ℕ → Bool
 constant f n = finite (f 0) && allTo (λ j. sameBits (f j) (f 0)) n
 
--- the mean of one value or more: finite values with equal bits give that value, others their sum over their count
+-- the mean of one value or more: where `constant` holds it is the first of them, without rounding, else their sum over their count
 unfoldable pub exactMean : (ℕ → Float) → ℕ → Float
 exactMean f n = cond (constant f n) (f 0) (div binary64 (sumTo f n) (counted n))
 

@@ -9,7 +9,7 @@ ghost use Rattle.lists.specs.Sums as sums;
 ghost use Rattle.stats.specs.Average as average;
 ghost use Rattle.stats.specs.Average.{averagedOf};
 
-// A number, or the mark that there is none; over 65,536 values are refused.
+// What an average answers: its value, `Empty` where it has no value, or the refusal of over 65,536 values.
 pub enum Average {
     Value(f64),
     Empty,
@@ -78,7 +78,7 @@ fn sum_of_squares(values: &[f64], m: f64) -> f64
     sum
 }
 
-// The mean, or the mark that there is none.
+// The mean; `Empty` for an empty list.
 pub fn mean(values: &[f64]) -> Average
     ensures { λ r. ⌜ averagedOf r ≡ average.mean (cells (now (values .entry))) (length (now (values .entry))) ⌝ }
 {
