@@ -209,7 +209,7 @@ fn small_books(w: &mut Recorder, r: &mut Random, enough: usize) {
     for turn in 0.. {
         for kind in 0..KINDS {
             let n = 2 + (kind + turn) % 3;
-            let repeat = 1 + turn % 4 / 3;
+            let repeat = if turn % 4 == 3 { 2 } else { 1 };
             let book = of_kind(r, kind, n);
             if w.grouped.contains(&bits_of(&book)) {
                 continue;
