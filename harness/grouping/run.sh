@@ -1,21 +1,24 @@
 #!/usr/bin/env bash
-# Compares whole runs of the proved library with the unchanged Rust, runs it on a small stack, times both; records runs of the Rust;
-# and compares what the grouping program prints.
+# Compares the proved library with the unchanged Rust: whole runs; the statistics, the intake check and the counts of draws. Runs it on a
+# small stack; times both sides; counts their instructions; records runs of the Rust; and compares what the grouping program prints.
 #   SOURCES=dir bash harness/grouping/run.sh runs [SEED] [BOOKS]
+#   SOURCES=dir bash harness/grouping/run.sh statistics [SEED] [CALLS]
 #   SOURCES=dir bash harness/grouping/run.sh stack [KIB]
 #   SOURCES=dir bash harness/grouping/run.sh time [RUNS]
+#   SOURCES=dir bash harness/grouping/run.sh count [NAMES]
 #   SOURCES=dir bash harness/grouping/run.sh record > crates/replay_runs/stdin
 #   SOURCES=dir bash harness/grouping/run.sh texts [SEED] [TEXTS]
 #   SOURCES=dir bash harness/grouping/run.sh record-texts > crates/texts/stdin
 # SOURCES names the folder with the Rust's onc.rs; VENDOR a folder of vendored crates (harness/oracle/README.md).
-# WORK is where all is built (target/harness); LIBRARIES the archive to link instead of the one that `rt staticlib exports` writes;
-# PROGRAM the grouping program to run instead of the one that `rt check grouping` writes.
+# WORK is where all is built (target/harness); LIBRARIES the archives to link instead of those that `rt staticlib` writes of `exports` and
+# `harness_exports`; PROGRAM the grouping program to run instead of the one that `rt check grouping` writes. `count` takes valgrind.
 set -euo pipefail
-case ${1:-} in runs | stack | time | record | texts | record-texts) ;; *) sed -n '2,12s/^# //p' "$0" && exit 2 ;; esac
+case ${1:-} in runs | statistics | stack | time | count | record | texts | record-texts) ;; *) sed -n '2,15s/^# //p' "$0" && exit 2 ;; esac
 cd "$(dirname "${BASH_SOURCE[0]}")/../.."
 work=${WORK:-target/harness}
 mkdir -p "$work"
 work=$(cd "$work" && pwd)
+rm -rf "$work/grouping/src"
 cp -Rp harness/oracle harness/kmeans harness/grouping "$work"
 export CARGO_TARGET_DIR=$work/build
 "$work/oracle/build.sh" >&2
@@ -39,8 +42,18 @@ case $1 in
 esac
 if [ -z "${LIBRARIES:-}" ]; then
   rt staticlib exports >&2
-  LIBRARIES="$PWD/target/staticlib/libexports.a"
+  rt staticlib harness_exports >&2
+  LIBRARIES="$PWD/target/staticlib/libexports.a $PWD/target/staticlib/libharness_exports.a"
 fi
 export LIBRARIES
 build compare
-exec "$work/build/release/compare" "$@"
+if [ "$1" != count ]; then
+  exec "$work/build/release/compare" "$@"
+fi
+# one side a run; only the function counted_run is counted
+for side in rust library; do
+  out=$work/callgrind.$side
+  valgrind -q --tool=callgrind --toggle-collect=counted_run --callgrind-out-file="$out" "$work/build/release/compare" count "$side" "${2:-50}"
+  echo "$side, instructions of one run of ${2:-50} names:"
+  callgrind_annotate --threshold=97 "$out" | sed -n 's/^ *\([0-9,]* ([ 0-9.]*%)  [^ ].*\)$/  \1/p'
+done

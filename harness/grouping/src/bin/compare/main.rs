@@ -1,0 +1,25 @@
+//! Compares the proved library with the unchanged Rust, and times both. Usage: see run.sh.
+//!   compare runs [SEED] [BOOKS]         BOOKS made-up books (20000), each with several lists of draws; the status is 0 if none differs
+//!   compare statistics [SEED] [CALLS]   the averages, the intake check and the counts of draws, CALLS made-up lists of each (3000)
+//!   compare stack [KIB]                 a run of 256 names and 64 repeats, and one of 32 rounds, in a thread with a stack of KIB (1024)
+//!   compare time [RUNS]                 whole runs and their phases on the same books and draws, medians of RUNS runs (5)
+//!   compare count SIDE [NAMES]          one run of one side, rust or library, for a tool that counts instructions
+mod library;
+mod runs;
+mod speed;
+mod stack;
+mod statistics;
+
+fn main() {
+    grouping_harness::call::silence();
+    let args: Vec<String> = std::env::args().collect();
+    let number = |i: usize, or: usize| args.get(i).map_or(or, |a| a.parse().unwrap());
+    let right = match args[1].as_str() {
+        "runs" => runs::runs(number(2, 7) as u64, number(3, 20_000)),
+        "statistics" => statistics::statistics(number(2, 7) as u64, number(3, 3_000)),
+        "stack" => stack::stack(number(2, 1024)),
+        "time" => speed::time(number(2, 5)),
+        _ => speed::count(&args[2], number(3, 50)),
+    };
+    std::process::exit(if right { 0 } else { 1 });
+}

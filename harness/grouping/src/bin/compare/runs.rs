@@ -1,0 +1,207 @@
+//! Whole runs on made-up books: each with the draws of a seeded run, with hostile lists of draws, and with lists or sizes that are wrong.
+use crate::library::differences;
+use grouping_harness::books::named;
+use grouping_harness::call::{by_rust, expected, Answer, Call};
+use kmeans_harness::draws::limit;
+use kmeans_harness::random::Random;
+use rand::Source;
+use std::collections::BTreeMap;
+
+/// What occurred, by heading and kind: books, or calls with how many of them differ.
+#[derive(Default)]
+struct Counts {
+    books: BTreeMap<(&'static str, String), usize>,
+    calls: BTreeMap<(&'static str, String), (usize, usize)>,
+    compared: usize,
+    differ: usize,
+}
+
+impl Counts {
+    fn book(&mut self, heading: &'static str, kind: String) {
+        *self.books.entry((heading, kind)).or_default() += 1;
+    }
+    /// Compares a call with what it must answer.
+    fn add(&mut self, r: &mut Random, call: &Call, want: &Answer, kind: &str) {
+        let found = differences(r, call, want);
+        let wrong = usize::from(!found.is_empty());
+        self.compared += 1;
+        self.differ += wrong;
+        if wrong == 1 && self.differ <= 5 {
+            println!("differs: {kind}, {} names, {} repeats: {}", call.rows, call.repeat, found.join("; "));
+        }
+        for row in [("calls", kind.to_string()), ("answer", format!("{:2}", want.told[0]))] {
+            let row = self.calls.entry(row).or_default();
+            row.0 += 1;
+            row.1 += wrong;
+        }
+    }
+    /// Compares a call with what the Rust, or the table, answers to it.
+    fn ask(&mut self, r: &mut Random, call: &Call, kind: &str) {
+        let want = expected(call);
+        self.add(r, call, &want, kind);
+    }
+    fn print(&self, books: usize) {
+        for ((heading, kind), count) in &self.books {
+            println!("{heading:7} {kind:28} {count:9} books");
+        }
+        for ((heading, kind), (compared, differ)) in &self.calls {
+            println!("{heading:7} {kind:28} {compared:9} compared, {differ} differ");
+        }
+        println!("{books} books, {} calls compared, {} differ", self.compared, self.differ);
+    }
+}
+
+/// The ends of what a draw may be, and values just over them.
+fn ends(n: usize) -> [u64; 6] {
+    [0, n as u64 - 1, n as u64, (1 << 53) - 1, 1 << 53, u64::MAX]
+}
+
+/// Draws that end inside a round, at its first draw and one draw before its last: of every round, or of the last.
+fn too_few(r: &mut Random, counts: &mut Counts, call: &Call, rounds: &[u64], every: bool) {
+    let mut start = 0;
+    for (i, &m) in rounds.iter().enumerate() {
+        let end = start + call.repeat * rand::count(m) as usize;
+        if every || i + 1 == rounds.len() {
+            for left in [start, end - 1] {
+                let draws = call.draws[..left].to_vec();
+                counts.ask(r, &Call { draws, ..call.clone() }, if left == start { "draws end before a round" } else { "one draw too few" });
+            }
+        }
+        start = end;
+    }
+    let draws = call.draws[..r.below(call.draws.len())].to_vec();
+    counts.ask(r, &Call { draws, ..call.clone() }, "too few draws");
+}
+
+/// One draw replaced by each of the ends: at every place, or at one.
+fn one_draw(r: &mut Random, counts: &mut Counts, call: &Call, every: bool) {
+    let one = r.below(call.draws.len());
+    for place in if every { 0..call.draws.len() } else { one..one + 1 } {
+        for value in ends(call.rows) {
+            let mut draws = call.draws.clone();
+            draws[place] = value;
+            counts.ask(r, &Call { draws, ..call.clone() }, if every { "each place at each end" } else { "a draw at each end" });
+        }
+    }
+}
+
+/// All draws at the ends: in range, as the Rust asks for them, and whatever is asked for.
+fn all_draws(r: &mut Random, counts: &mut Counts, call: &Call) {
+    let n = call.rows;
+    let (mut own, only) = (Random::new(r.bits()), r.below(4));
+    let rule = move |_, kind| match only {
+        0 => limit(kind) - 1,
+        1 => 0,
+        _ => own.one_of(&[0, limit(kind) - 1]),
+    };
+    let (want, control) = by_rust(&call.book, n, call.repeat, Source::Policy(Box::new(rule)), 0);
+    counts.add(r, &Call { draws: control.draws, ..call.clone() }, &want, "least and greatest draws");
+    let one = r.one_of(&ends(n));
+    counts.ask(r, &Call { draws: vec![one; call.draws.len()], ..call.clone() }, "one end for all draws");
+    let draws = call.draws.iter().map(|_| r.one_of(&ends(n))).collect();
+    counts.ask(r, &Call { draws, ..call.clone() }, "any ends for all draws");
+}
+
+/// A call with one list, or one size, that is wrong, by its number: the book and the seven lists of five lengths each, then sizes and repeats.
+fn wrong(call: &Call, fault: usize) -> Option<Call> {
+    let n = call.rows;
+    let mut call = call.clone();
+    if fault < 40 {
+        let (list, length) = (fault / 5, |right: usize| [0, 1, right - 1, right + 1, 2 * right][fault % 5]);
+        match list {
+            7 => call.book.resize(length(n * n), 0.5),
+            _ => call.lent[list] = length(call.lent[list]),
+        }
+        return Some(call);
+    }
+    let (rows, cols, repeat) = *[
+        (n, n, 0),
+        (n, n, 65),
+        (n, n, usize::MAX),
+        (n, n - 1, call.repeat),
+        (n, n + 1, call.repeat),
+        (n + 1, n, call.repeat),
+        (n, usize::MAX, call.repeat),
+        (1, n * n, call.repeat),
+        (0, 0, call.repeat),
+        (1, 1, call.repeat),
+        (n + 1, n + 1, call.repeat),
+        (257, 257, call.repeat),
+        (1 << 32, 1 << 32, call.repeat),
+        (usize::MAX, usize::MAX, call.repeat),
+    ]
+    .get(fault - 40)?;
+    Some(Call { rows, cols, repeat, ..call })
+}
+
+/// Lists and sizes that are wrong: each by itself, or one alone and two at once.
+fn wrong_lists(r: &mut Random, counts: &mut Counts, call: &Call, every: bool) {
+    let faults: Vec<Call> = (0..).map_while(|fault| wrong(call, fault)).collect();
+    let one = r.below(faults.len());
+    for fault in if every { &faults[..] } else { &faults[one..one + 1] } {
+        counts.ask(r, fault, if every { "each wrong list or size" } else { "a wrong list or size" });
+    }
+    // the lists of one fault with the sizes and repeats of another
+    let other = &faults[r.from(40, faults.len() - 1)];
+    let two = Call { rows: other.rows, cols: other.cols, repeat: other.repeat, ..faults[r.below(40)].clone() };
+    counts.ask(r, &two, "two wrong at once");
+}
+
+fn one_book(r: &mut Random, counts: &mut Counts, n: usize) {
+    let (kind, book) = named(r, n);
+    let repeat = if n > 40 { 1 } else { r.one_of(&[1, 1, 1, 2, 3]) };
+    let (want, control) = by_rust(&book, n, repeat, Source::Seeded, r.bits());
+    let call = Call::proper(book, n, repeat, control.draws);
+    let rounds = control.rounds;
+    counts.book("book", kind);
+    counts.book("repeats", repeat.to_string());
+    counts.book("rounds", format!("{:2}", rounds.len()));
+    counts.add(r, &call, &want, "draws of a seeded run");
+    let mut behind = call.clone();
+    behind.draws.extend((0..r.from(1, 9)).map(|_| r.bits()));
+    if n <= 100 {
+        counts.ask(r, &behind, "others behind them");
+    } else {
+        counts.add(r, &behind, &want, "others behind them");
+    }
+    too_few(r, counts, &call, &rounds, n <= 12);
+    if n > 100 {
+        return;
+    }
+    let few = call.draws.len() <= 40;
+    let each_place = (few && r.once_in(4)) || (call.draws.len() <= 400 && r.once_in(50));
+    one_draw(r, counts, &call, each_place);
+    all_draws(r, counts, &call);
+    let each_list = n <= 12 && r.once_in(10);
+    wrong_lists(r, counts, &call, each_list);
+}
+
+/// Sizes: mostly 2 to 40, one book in 500 of up to 100 names, one in 20,000 of up to 200, and one of 256 among 50,000 or more.
+fn names(r: &mut Random, at: usize) -> usize {
+    match (at % 50_000, at % 20_000, at % 500) {
+        (49_999, _, _) if at < 50_000 => 256,
+        (_, 19_998, _) => r.from(101, 200),
+        (_, _, 250) => r.from(41, 100),
+        _ => match r.below(20) {
+            0 => r.from(25, 40),
+            1..=3 => r.from(13, 24),
+            4..=10 => r.from(7, 12),
+            _ => r.from(2, 6),
+        },
+    }
+}
+
+const SIZES: [(usize, usize); 7] = [(2, 6), (7, 12), (13, 24), (25, 40), (41, 100), (101, 200), (256, 256)];
+
+pub fn runs(seed: u64, books: usize) -> bool {
+    let mut r = Random::new(seed);
+    let mut counts = Counts::default();
+    for at in 0..books {
+        let n = names(&mut r, at);
+        let (from, to) = SIZES[SIZES.iter().position(|&(_, to)| n <= to).unwrap()];
+        counts.book("names", format!("{from:3} to {to:3}"));
+        one_book(&mut r, &mut counts, n);
+    }
+    counts.print(books);
+    counts.differ == 0
+}

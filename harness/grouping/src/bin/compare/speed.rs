@@ -1,0 +1,233 @@
+//! Both sides in one process, on the same block books with noise and the same draws, one repeat: whole runs, and the phases of their first
+//! round, one after the other for every k.
+use crate::library::{onc_book_pairs, onc_lloyd_in, onc_scores_in, onc_seed_in, onc_tstat_of, Lists};
+use grouping_harness::call::{bits, by_rust, Answer, Call};
+use kmeans_harness::books::{block_correlations, matrix};
+use kmeans_harness::random::Random;
+use openquant::onc::get_onc_clusters_with_seed;
+use openquant::onc_leaf::open::{self, DMatrix};
+use rand::{install, rngs::StdRng, Control, SeedableRng, Source};
+use std::hint::black_box;
+use std::time::Instant;
+
+const NAMES: [usize; 5] = [12, 20, 50, 100, 256];
+const PHASES: [&str; 4] = ["distances", "seeding", "Lloyd", "silhouettes, t-stats"];
+const SEED: u64 = 42;
+
+/// A book, the draws of a seeded run on it, what the run gives, and how many rounds it has.
+struct Case {
+    rows: DMatrix<f64>,
+    call: Call,
+    want: Answer,
+    rounds: usize,
+}
+
+fn case(n: usize) -> Case {
+    // the books of all sizes come from one stream, so that a size has the same book in every mode
+    let mut r = Random::new(1);
+    let mut books = NAMES.map(|m| block_correlations(&mut r, m, (m / 8).max(2), 0.2)).into_iter();
+    let book = books.find(|book| book.len() == n * n).expect("12, 20, 50, 100 or 256 names");
+    let (want, control) = by_rust(&book, n, 1, Source::Seeded, SEED);
+    let rows = matrix(&book, n);
+    Case { rows, call: Call::proper(book, n, 1, control.draws), want, rounds: control.rounds.len() }
+}
+
+/// Least, middle and greatest of several times, in milliseconds.
+#[derive(Clone, Copy)]
+struct Times([f64; 3]);
+
+impl Times {
+    fn of(mut times: Vec<f64>) -> Times {
+        times.sort_by(f64::total_cmp);
+        Times([times[0], times[times.len() / 2], times[times.len() - 1]])
+    }
+    fn middle(self) -> f64 {
+        self.0[1]
+    }
+    fn text(self) -> String {
+        let [least, middle, greatest] = self.0.map(|x| format!("{x:.*}", [3, 2, 1, 0][(x * 10.0).log10().clamp(0.0, 3.0) as usize]));
+        format!("{middle} ({least} to {greatest})")
+    }
+}
+
+fn milliseconds<T>(run: impl FnOnce() -> T) -> (f64, T) {
+    let began = Instant::now();
+    let found = black_box(run());
+    (began.elapsed().as_secs_f64() * 1e3, found)
+}
+
+/// Whole runs: the times of the Rust and of the library, and whether each answer was the recorded one.
+fn whole(case: &Case, runs: usize) -> ([Times; 2], bool) {
+    let mut lists = Lists::new(&case.call);
+    let (mut rust, mut library, mut equal) = (Vec::new(), Vec::new(), true);
+    install(Control::plain());
+    for _ in 0..runs {
+        let (took, found) = milliseconds(|| get_onc_clusters_with_seed(black_box(&case.rows), 1, SEED));
+        rust.push(took);
+        equal &= found.is_ok_and(|f| f.clusters.len() == case.want.told[2]);
+        let (took, _) = milliseconds(|| lists.run(&case.call));
+        library.push(took);
+        equal &= lists.hold(&case.want);
+    }
+    ([Times::of(rust), Times::of(library)], equal)
+}
+
+/// What the candidates of a round are: centres, labels, scores and t-stat of each, doubles as their bits.
+type Candidates = [Vec<Vec<u64>>; 4];
+
+fn candidates(centres: Vec<Vec<usize>>, labels: Vec<Vec<usize>>, scores: Vec<Vec<f64>>, stats: Vec<f64>) -> Candidates {
+    let numbers = |lists: Vec<Vec<usize>>| lists.into_iter().map(|list| list.into_iter().map(|x| x as u64).collect()).collect();
+    let doubles = |lists: Vec<Vec<f64>>| lists.into_iter().map(|list| list.into_iter().map(bits).collect()).collect();
+    [numbers(centres), numbers(labels), doubles(scores), doubles(vec![stats])]
+}
+
+/// The first round on the Rust, which draws with the seed of the recorded run.
+fn rust_round(case: &Case) -> ([f64; 4], Candidates) {
+    let n = case.call.rows;
+    let mut rng = StdRng::seed_from_u64(SEED);
+    let (distances, (points, pairwise)) = milliseconds(|| {
+        let points = open::prepare(&open::corr_to_distance(black_box(&case.rows)));
+        let pairwise = open::pairwise_distances_of(&points);
+        (points, pairwise)
+    });
+    let (seeding, centres) = milliseconds(|| (2..n).map(|k| open::kmeans_plus_plus_of(&points, k, &mut rng)).collect::<Vec<_>>());
+    let (lloyd, labels) = milliseconds(|| centres.iter().map(|c| open::lloyd_of(&points, c)).collect::<Vec<_>>());
+    let (scoring, (scores, stats)) = milliseconds(|| {
+        let scored = labels.iter().map(|l| {
+            let scores = open::silhouette_from_pairwise(&pairwise, l);
+            let stat = open::tstat(&scores);
+            (scores, stat)
+        });
+        scored.unzip()
+    });
+    ([distances, seeding, lloyd, scoring], candidates(centres, labels, scores, stats))
+}
+
+/// The same on the inner forms of the library, with the draws of the recorded run.
+fn library_round(case: &Case) -> ([f64; 4], Candidates) {
+    let Call { rows: n, book, draws, .. } = &case.call;
+    let n = *n;
+    let rows: Vec<usize> = (0..n).collect();
+    let (mut area, mut weights) = (vec![0.0; 5 * n * n], vec![0.0; n]);
+    let (a, al) = (area.as_mut_ptr(), area.len());
+    let (distances, ()) = milliseconds(|| unsafe { onc_book_pairs(book.as_ptr(), book.len(), n, rows.as_ptr(), n, a, 4 * n * n) });
+    let mut at = 0;
+    let (seeding, centres) = milliseconds(|| {
+        let seed = |k: usize| {
+            let mut centres = vec![0usize; k];
+            at = unsafe { onc_seed_in(a, al, n, draws.as_ptr(), draws.len(), at, centres.as_mut_ptr(), k, weights.as_mut_ptr(), n) };
+            centres
+        };
+        (2..n).map(seed).collect::<Vec<_>>()
+    });
+    let (lloyd, labels) = milliseconds(|| {
+        let group = |centres: &Vec<usize>| {
+            let mut labels = vec![0usize; n];
+            unsafe { onc_lloyd_in(a, al, n, centres.as_ptr(), centres.len(), labels.as_mut_ptr(), n) };
+            labels
+        };
+        centres.iter().map(group).collect::<Vec<_>>()
+    });
+    let (scoring, (scores, stats)) = milliseconds(|| {
+        let score = |(labels, k): (&Vec<usize>, usize)| {
+            let mut scores = vec![0.0; n];
+            unsafe { onc_scores_in(a, al, n, labels.as_ptr(), n, k, scores.as_mut_ptr(), n) };
+            let stat = unsafe { onc_tstat_of(scores.as_ptr(), n) };
+            (scores, stat)
+        };
+        labels.iter().zip(2..).map(score).unzip()
+    });
+    ([distances, seeding, lloyd, scoring], candidates(centres, labels, scores, stats))
+}
+
+/// The phases of the first round and, last, their sum: of the Rust and of the library; and whether all candidates are the same.
+fn phases(case: &Case, runs: usize) -> ([Vec<Times>; 2], bool) {
+    let (mut rust, mut library, mut equal) = (Vec::new(), Vec::new(), true);
+    for _ in 0..runs {
+        let (took, want) = rust_round(case);
+        rust.push(took);
+        let (took, found) = library_round(case);
+        library.push(took);
+        equal &= found == want;
+    }
+    let times = |took: Vec<[f64; 4]>| {
+        let of = |time: &dyn Fn(&[f64; 4]) -> f64| Times::of(took.iter().map(time).collect());
+        (0..4).map(|phase| of(&|t| t[phase])).chain([of(&|t| t.iter().sum())]).collect()
+    };
+    ([times(rust), times(library)], equal)
+}
+
+/// How many times runs are taken of a size.
+fn times_of(n: usize, runs: usize) -> usize {
+    match n {
+        0..=20 => 10 * runs,
+        21..=100 => runs,
+        _ => runs.min(3),
+    }
+}
+
+fn answers(equal: bool) -> &'static str {
+    if equal {
+        "equal"
+    } else {
+        "DIFFER"
+    }
+}
+
+pub fn time(runs: usize) -> bool {
+    let cases = NAMES.map(case);
+    let mut right = true;
+    println!("Milliseconds: median (least to greatest).\n\nWhole runs of one repeat\n");
+    println!("| names | rounds | runs | Rust | library | ratio | answers |\n|---|---|---|---|---|---|---|");
+    let whole_runs = cases.each_ref().map(|case| {
+        let (n, runs) = (case.call.rows, times_of(case.call.rows, runs));
+        let ([rust, library], equal) = whole(case, runs);
+        right &= equal;
+        let ratio = rust.middle() / library.middle();
+        println!("| {n} | {} | {runs} | {} | {} | {ratio:.1} | {} |", case.rounds, rust.text(), library.text(), answers(equal));
+        [rust, library].map(Times::middle)
+    });
+    println!("\nThe first round, by phase\n");
+    println!("| names | phase | Rust | library | ratio | of the library's round | answers |\n|---|---|---|---|---|---|---|");
+    let rounds = cases.each_ref().map(|case| {
+        let n = case.call.rows;
+        let ([rust, library], equal) = phases(case, times_of(n, runs));
+        right &= equal;
+        for (i, phase) in PHASES.iter().chain([&"all four"]).enumerate() {
+            let (ratio, share) = (rust[i].middle() / library[i].middle(), 100.0 * library[i].middle() / library[4].middle());
+            println!("| {n} | {phase} | {} | {} | {ratio:.1} | {share:.0} % | {} |", rust[i].text(), library[i].text(), answers(equal));
+        }
+        [rust, library].map(|side| side.into_iter().map(Times::middle).collect::<Vec<_>>())
+    });
+    println!("\nHow many times longer from one size to the next\n");
+    println!("| names | n^3 | n^4 | Rust, run | library, run | Rust, round | library, round | {} |", PHASES.map(|p| format!("library, {p}")).join(" | "));
+    println!("|---|---|---|---|---|---|---|---|---|---|---|");
+    for i in 1..NAMES.len() {
+        let by = NAMES[i] as f64 / NAMES[i - 1] as f64;
+        let mut row = vec![by.powi(3), by.powi(4)];
+        row.extend((0..2).map(|side| whole_runs[i][side] / whole_runs[i - 1][side]));
+        row.extend((0..2).map(|side| rounds[i][side][4] / rounds[i - 1][side][4]));
+        row.extend((0..4).map(|phase| rounds[i][1][phase] / rounds[i - 1][1][phase]));
+        println!("| {} to {} | {} |", NAMES[i - 1], NAMES[i], row.iter().map(|x| format!("{x:.1}")).collect::<Vec<_>>().join(" | "));
+    }
+    right
+}
+
+/// One run of one side; a tool that counts instructions looks at nothing but this function.
+#[no_mangle]
+#[inline(never)]
+fn counted_run(rust: bool, case: &Case, lists: &mut Lists) -> usize {
+    if rust {
+        get_onc_clusters_with_seed(&case.rows, 1, SEED).map_or(0, |found| found.clusters.len())
+    } else {
+        lists.run(&case.call)
+    }
+}
+
+pub fn count(side: &str, n: usize) -> bool {
+    let case = case(n);
+    let mut lists = Lists::new(&case.call);
+    install(Control::plain());
+    black_box(counted_run(black_box(side == "rust"), &case, &mut lists));
+    side == "rust" || lists.hold(&case.want)
+}
