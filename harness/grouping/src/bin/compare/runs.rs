@@ -1,6 +1,6 @@
 //! Whole runs on made-up books: each with the draws of a seeded run, with hostile lists of draws, and with lists or sizes that are wrong.
 use crate::library::differences;
-use grouping_harness::books::named;
+use grouping_harness::books::{named, of_kind};
 use grouping_harness::call::{by_rust, expected, Answer, Call};
 use kmeans_harness::draws::limit;
 use kmeans_harness::random::Random;
@@ -56,50 +56,59 @@ fn ends(n: usize) -> [u64; 6] {
     [0, n as u64 - 1, n as u64, (1 << 53) - 1, 1 << 53, u64::MAX]
 }
 
-/// Draws that end inside a round, at its first draw and one draw before its last: of every round, or of the last.
+/// Draws that end before a round, and one draw before its end: of every round, and somewhere; or one draw before the end of the last alone.
 fn too_few(r: &mut Random, counts: &mut Counts, call: &Call, rounds: &[u64], every: bool) {
+    let mut ask = |left: usize, kind: &str| counts.ask(r, &Call { draws: call.draws[..left].to_vec(), ..call.clone() }, kind);
+    if !every {
+        return ask(call.draws.len() - 1, "one draw too few");
+    }
     let mut start = 0;
-    for (i, &m) in rounds.iter().enumerate() {
-        let end = start + call.repeat * rand::count(m) as usize;
-        if every || i + 1 == rounds.len() {
-            for left in [start, end - 1] {
-                let draws = call.draws[..left].to_vec();
-                counts.ask(r, &Call { draws, ..call.clone() }, if left == start { "draws end before a round" } else { "one draw too few" });
-            }
-        }
-        start = end;
+    for &m in rounds {
+        ask(start, "no draws for a round");
+        start += call.repeat * rand::count(m) as usize;
+        ask(start - 1, "one draw too few");
     }
-    let draws = call.draws[..r.below(call.draws.len())].to_vec();
-    counts.ask(r, &Call { draws, ..call.clone() }, "too few draws");
+    let left = r.below(call.draws.len());
+    counts.ask(r, &Call { draws: call.draws[..left].to_vec(), ..call.clone() }, "too few draws");
 }
 
-/// One draw replaced by each of the ends: at every place, or at one.
+/// One draw replaced by an end: every draw by each of them, or one by one.
 fn one_draw(r: &mut Random, counts: &mut Counts, call: &Call, every: bool) {
-    let one = r.below(call.draws.len());
-    for place in if every { 0..call.draws.len() } else { one..one + 1 } {
+    let mut ask = |r: &mut Random, place: usize, value: u64, kind: &str| {
+        let mut draws = call.draws.clone();
+        draws[place] = value;
+        counts.ask(r, &Call { draws, ..call.clone() }, kind);
+    };
+    if !every {
+        let (place, value) = (r.below(call.draws.len()), r.one_of(&ends(call.rows)));
+        return ask(r, place, value, "one draw at an end");
+    }
+    for place in 0..call.draws.len() {
         for value in ends(call.rows) {
-            let mut draws = call.draws.clone();
-            draws[place] = value;
-            counts.ask(r, &Call { draws, ..call.clone() }, if every { "each place at each end" } else { "a draw at each end" });
+            ask(r, place, value, "each draw at each end");
         }
     }
 }
 
-/// All draws at the ends: in range, as the Rust asks for them, and whatever is asked for.
-fn all_draws(r: &mut Random, counts: &mut Counts, call: &Call) {
-    let n = call.rows;
+/// All draws the least or the greatest in range, as the Rust asks for them.
+fn in_range(r: &mut Random, counts: &mut Counts, call: &Call) {
     let (mut own, only) = (Random::new(r.bits()), r.below(4));
     let rule = move |_, kind| match only {
         0 => limit(kind) - 1,
         1 => 0,
         _ => own.one_of(&[0, limit(kind) - 1]),
     };
-    let (want, control) = by_rust(&call.book, n, call.repeat, Source::Policy(Box::new(rule)), 0);
-    counts.add(r, &Call { draws: control.draws, ..call.clone() }, &want, "least and greatest draws");
-    let one = r.one_of(&ends(n));
-    counts.ask(r, &Call { draws: vec![one; call.draws.len()], ..call.clone() }, "one end for all draws");
-    let draws = call.draws.iter().map(|_| r.one_of(&ends(n))).collect();
-    counts.ask(r, &Call { draws, ..call.clone() }, "any ends for all draws");
+    let (want, control) = by_rust(&call.book, call.rows, call.repeat, Source::Policy(Box::new(rule)), 0);
+    counts.add(r, &Call { draws: control.draws, ..call.clone() }, &want, "all draws least or greatest");
+}
+
+/// All draws at ends, whatever is asked for: one of them throughout, or any.
+fn at_ends(r: &mut Random, counts: &mut Counts, call: &Call) {
+    let ends = ends(call.rows);
+    let one = r.one_of(&ends);
+    let throughout = r.once_in(2);
+    let draws = call.draws.iter().map(|_| if throughout { one } else { r.one_of(&ends) }).collect();
+    counts.ask(r, &Call { draws, ..call.clone() }, if throughout { "all draws at one end" } else { "all draws at ends" });
 }
 
 /// A call with one list, or one size, that is wrong, by its number: the book and the seven lists of five lengths each, then sizes and repeats.
@@ -147,45 +156,54 @@ fn wrong_lists(r: &mut Random, counts: &mut Counts, call: &Call, every: bool) {
     counts.ask(r, &two, "two wrong at once");
 }
 
+/// All of the above for small books, one of them for books of up to 100 names; beyond that the Rust takes seconds for a run.
 fn one_book(r: &mut Random, counts: &mut Counts, n: usize) {
-    let (kind, book) = named(r, n);
-    let repeat = if n > 40 { 1 } else { r.one_of(&[1, 1, 1, 2, 3]) };
+    let (kind, book) = if n > 100 { ("blocks".into(), of_kind(r, 1, n)) } else { named(r, n) };
+    let repeat = if n > 24 { 1 } else { r.one_of(&[1, 1, 1, 2, 3]) };
     let (want, control) = by_rust(&book, n, repeat, Source::Seeded, r.bits());
     let call = Call::proper(book, n, repeat, control.draws);
-    let rounds = control.rounds;
     counts.book("book", kind);
     counts.book("repeats", repeat.to_string());
-    counts.book("rounds", format!("{:2}", rounds.len()));
+    counts.book("rounds", format!("{:2}", control.rounds.len()));
     counts.add(r, &call, &want, "draws of a seeded run");
+    let small = n <= 12;
     let mut behind = call.clone();
     behind.draws.extend((0..r.from(1, 9)).map(|_| r.bits()));
-    if n <= 100 {
+    if small {
         counts.ask(r, &behind, "others behind them");
     } else {
         counts.add(r, &behind, &want, "others behind them");
     }
-    too_few(r, counts, &call, &rounds, n <= 12);
-    if n > 100 {
-        return;
+    too_few(r, counts, &call, &control.rounds, small);
+    let one = if n > 100 { 4 } else { r.below(4) };
+    if small || one == 0 {
+        let every = small && ((call.draws.len() <= 40 && r.once_in(4)) || (call.draws.len() <= 400 && r.once_in(50)));
+        one_draw(r, counts, &call, every);
     }
-    let few = call.draws.len() <= 40;
-    let each_place = (few && r.once_in(4)) || (call.draws.len() <= 400 && r.once_in(50));
-    one_draw(r, counts, &call, each_place);
-    all_draws(r, counts, &call);
-    let each_list = n <= 12 && r.once_in(10);
-    wrong_lists(r, counts, &call, each_list);
+    if small || one == 1 {
+        in_range(r, counts, &call);
+    }
+    if small || one == 2 {
+        at_ends(r, counts, &call);
+    }
+    if small || one == 3 {
+        let every = small && r.once_in(10);
+        wrong_lists(r, counts, &call, every);
+    }
 }
 
-/// Sizes: mostly 2 to 40, one book in 500 of up to 100 names, one in 20,000 of up to 200, and one of 256 among 50,000 or more.
+/// Names of the book at a place: mostly 2 to 40, one book in 2,000 of up to 100, one in 20,000 of up to 200, and one of 256 in 50,000 and more.
 fn names(r: &mut Random, at: usize) -> usize {
-    match (at % 50_000, at % 20_000, at % 500) {
-        (49_999, _, _) if at < 50_000 => 256,
-        (_, 19_998, _) => r.from(101, 200),
-        (_, _, 250) => r.from(41, 100),
-        _ => match r.below(20) {
-            0 => r.from(25, 40),
-            1..=3 => r.from(13, 24),
-            4..=10 => r.from(7, 12),
+    if at == 49_999 {
+        return 256;
+    }
+    match (at % 20_000, at % 2_000) {
+        (19_998, _) => r.from(101, 200),
+        (_, 1_000) => r.from(41, 100),
+        _ => match r.below(100) {
+            0..=2 => r.from(25, 40),
+            3..=14 => r.from(13, 24),
+            15..=49 => r.from(7, 12),
             _ => r.from(2, 6),
         },
     }
