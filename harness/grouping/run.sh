@@ -50,10 +50,18 @@ build compare
 if [ "$1" != count ]; then
   exec "$work/build/release/compare" "$@"
 fi
-# one side a run; only the function counted_run is counted
-for side in rust library; do
-  out=$work/callgrind.$side
-  valgrind -q --tool=callgrind --toggle-collect=counted_run --callgrind-out-file="$out" "$work/build/release/compare" count "$side" "${2:-50}"
-  echo "$side, instructions of one run of ${2:-50} names:"
-  callgrind_annotate --threshold=97 "$out" | sed -n 's/^ *\([0-9,]* ([ 0-9.]*%)  [^ ].*\)$/  \1/p'
+# one side alone, on one phase or a whole run; only what runs inside the function `counted` is counted
+instructions() {
+  valgrind -q --tool=callgrind --toggle-collect=counted --callgrind-out-file="$work/callgrind.$1" "$work/build/release/compare" count "$@"
+  sed -n 's/^summary: *//p' "$work/callgrind.$1"
+}
+echo "| ${2:-50} names | Rust | library | ratio |"
+echo "|---|---|---|---|"
+for what in distances seeding Lloyd silhouettes "whole run"; do
+  rust=$(instructions rust "$what" "${2:-50}")
+  library=$(instructions library "$what" "${2:-50}")
+  echo "| $what | $rust | $library | $(awk "BEGIN { printf \"%.1f\", $rust / $library }") |"
 done
+echo
+echo "The library's functions in a whole run, each without those that it calls, under its callers:"
+callgrind_annotate --tree=caller --threshold=98 "$work/callgrind.library" | sed -n 's/^ *\([0-9,]* ([ 0-9.]*%)  [<*]\) *[^: ]*:\(.*\) \[.*$/\1 \2/p'

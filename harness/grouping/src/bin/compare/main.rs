@@ -3,7 +3,7 @@
 //!   compare statistics [SEED] [CALLS]   the averages, the intake check and the counts of draws, CALLS made-up lists of each (3000)
 //!   compare stack [KIB]                 a run of 256 names and 64 repeats, and one of 32 rounds, in a thread with a stack of KIB (1024)
 //!   compare time [RUNS]                 whole runs and their phases on the same books and draws, medians of RUNS runs (5)
-//!   compare count SIDE [NAMES]          one run of one side, rust or library, for a tool that counts instructions
+//!   compare count SIDE WHAT [NAMES]     for a tool that counts instructions: one side, rust or library, on a phase or a whole run
 mod library;
 mod runs;
 mod speed;
@@ -19,7 +19,7 @@ fn main() {
         "statistics" => statistics::statistics(number(2, 7) as u64, number(3, 3_000)),
         "stack" => stack::stack(number(2, 1024)),
         "time" => speed::time(number(2, 5)),
-        _ => speed::count(&args[2], number(3, 50)),
+        _ => speed::count(&args[2], &args[3], number(4, 50)),
     };
     std::process::exit(if right { 0 } else { 1 });
 }

@@ -1,5 +1,5 @@
 //! Both sides in one process, on the same block books with noise and the same draws, one repeat: whole runs, and the phases of their first
-//! round, one after the other for every k.
+//! round, one after the other for every k. The t-stats are counted to the silhouettes.
 use crate::library::{onc_book_pairs, onc_lloyd_in, onc_scores_in, onc_seed_in, onc_tstat_of, Lists};
 use grouping_harness::call::{bits, by_rust, Answer, Call};
 use kmeans_harness::books::{block_correlations, matrix};
@@ -11,7 +11,7 @@ use std::hint::black_box;
 use std::time::Instant;
 
 const NAMES: [usize; 5] = [12, 20, 50, 100, 256];
-const PHASES: [&str; 4] = ["distances", "seeding", "Lloyd", "silhouettes, t-stats"];
+const PHASES: [&str; 4] = ["distances", "seeding", "Lloyd", "silhouettes"];
 const SEED: u64 = 42;
 
 /// A book, the draws of a seeded run on it, what the run gives, and how many rounds it has.
@@ -50,26 +50,67 @@ impl Times {
     }
 }
 
-fn milliseconds<T>(run: impl FnOnce() -> T) -> (f64, T) {
-    let began = Instant::now();
-    let found = black_box(run());
-    (began.elapsed().as_secs_f64() * 1e3, found)
+/// A tool that counts instructions looks at what runs inside this function alone.
+#[no_mangle]
+#[inline(never)]
+fn counted(run: &mut dyn FnMut()) {
+    run();
+}
+
+/// What is done with runs one after the other: all timed, in milliseconds, or one of them counted.
+enum Meter {
+    Clock(Vec<f64>),
+    Count { before: usize },
+}
+
+impl Meter {
+    fn run<T>(&mut self, run: impl FnOnce() -> T) -> T {
+        match self {
+            Meter::Clock(times) => {
+                let began = Instant::now();
+                let found = black_box(run());
+                times.push(began.elapsed().as_secs_f64() * 1e3);
+                found
+            }
+            Meter::Count { before: 0 } => {
+                *self = Meter::Clock(Vec::new());
+                let (mut run, mut found) = (Some(run), None);
+                counted(&mut || found = run.take().map(|run| run()));
+                found.unwrap()
+            }
+            Meter::Count { before } => {
+                *before -= 1;
+                run()
+            }
+        }
+    }
+    fn times(self) -> Vec<f64> {
+        let Meter::Clock(times) = self else { unreachable!() };
+        times
+    }
+}
+
+/// A whole run on the Rust, which draws with the seed of the recorded run; whether it has the recorded groups.
+fn rust_run(case: &Case, meter: &mut Meter) -> bool {
+    install(Control::plain());
+    let found = meter.run(|| get_onc_clusters_with_seed(black_box(&case.rows), 1, SEED));
+    found.is_ok_and(|found| found.clusters.len() == case.want.told[2])
+}
+
+/// The same on the library, with the recorded draws; whether answer and outputs are the recorded ones.
+fn library_run(case: &Case, lists: &mut Lists, meter: &mut Meter) -> bool {
+    meter.run(|| lists.run(black_box(&case.call)));
+    lists.hold(&case.want)
 }
 
 /// Whole runs: the times of the Rust and of the library, and whether each answer was the recorded one.
 fn whole(case: &Case, runs: usize) -> ([Times; 2], bool) {
     let mut lists = Lists::new(&case.call);
-    let (mut rust, mut library, mut equal) = (Vec::new(), Vec::new(), true);
-    install(Control::plain());
+    let (mut rust, mut library, mut equal) = (Meter::Clock(Vec::new()), Meter::Clock(Vec::new()), true);
     for _ in 0..runs {
-        let (took, found) = milliseconds(|| get_onc_clusters_with_seed(black_box(&case.rows), 1, SEED));
-        rust.push(took);
-        equal &= found.is_ok_and(|f| f.clusters.len() == case.want.told[2]);
-        let (took, _) = milliseconds(|| lists.run(&case.call));
-        library.push(took);
-        equal &= lists.hold(&case.want);
+        equal &= rust_run(case, &mut rust) && library_run(case, &mut lists, &mut library);
     }
-    ([Times::of(rust), Times::of(library)], equal)
+    ([rust, library].map(|meter| Times::of(meter.times())), equal)
 }
 
 /// What the candidates of a round are: centres, labels, scores and t-stat of each, doubles as their bits.
@@ -81,87 +122,78 @@ fn candidates(centres: Vec<Vec<usize>>, labels: Vec<Vec<usize>>, scores: Vec<Vec
     [numbers(centres), numbers(labels), doubles(scores), doubles(vec![stats])]
 }
 
-/// The first round on the Rust, which draws with the seed of the recorded run.
-fn rust_round(case: &Case) -> ([f64; 4], Candidates) {
+/// The phases of the first round on the Rust.
+fn rust_round(case: &Case, meter: &mut Meter) -> Candidates {
     let n = case.call.rows;
+    install(Control::plain());
     let mut rng = StdRng::seed_from_u64(SEED);
-    let (distances, (points, pairwise)) = milliseconds(|| {
+    let (points, pairwise) = meter.run(|| {
         let points = open::prepare(&open::corr_to_distance(black_box(&case.rows)));
         let pairwise = open::pairwise_distances_of(&points);
         (points, pairwise)
     });
-    let (seeding, centres) = milliseconds(|| (2..n).map(|k| open::kmeans_plus_plus_of(&points, k, &mut rng)).collect::<Vec<_>>());
-    let (lloyd, labels) = milliseconds(|| centres.iter().map(|c| open::lloyd_of(&points, c)).collect::<Vec<_>>());
-    let (scoring, (scores, stats)) = milliseconds(|| {
-        let scored = labels.iter().map(|l| {
-            let scores = open::silhouette_from_pairwise(&pairwise, l);
-            let stat = open::tstat(&scores);
-            (scores, stat)
-        });
-        scored.unzip()
-    });
-    ([distances, seeding, lloyd, scoring], candidates(centres, labels, scores, stats))
+    let centres: Vec<_> = meter.run(|| (2..n).map(|k| open::kmeans_plus_plus_of(&points, k, &mut rng)).collect());
+    let labels: Vec<_> = meter.run(|| centres.iter().map(|c| open::lloyd_of(&points, c)).collect());
+    let score = |labels: &Vec<usize>| {
+        let scores = open::silhouette_from_pairwise(&pairwise, labels);
+        let stat = open::tstat(&scores);
+        (scores, stat)
+    };
+    let (scores, stats) = meter.run(|| labels.iter().map(score).unzip());
+    candidates(centres, labels, scores, stats)
 }
 
-/// The same on the inner forms of the library, with the draws of the recorded run.
-fn library_round(case: &Case) -> ([f64; 4], Candidates) {
-    let Call { rows: n, book, draws, .. } = &case.call;
-    let n = *n;
+/// The same on the inner forms of the library.
+fn library_round(case: &Case, meter: &mut Meter) -> Candidates {
+    let Call { book, draws, .. } = &case.call;
+    let n = case.call.rows;
     let rows: Vec<usize> = (0..n).collect();
     let (mut area, mut weights) = (vec![0.0; 5 * n * n], vec![0.0; n]);
     let (a, al) = (area.as_mut_ptr(), area.len());
-    let (distances, ()) = milliseconds(|| unsafe { onc_book_pairs(book.as_ptr(), book.len(), n, rows.as_ptr(), n, a, 4 * n * n) });
+    meter.run(|| unsafe { onc_book_pairs(book.as_ptr(), book.len(), n, rows.as_ptr(), n, a, 4 * n * n) });
     let mut at = 0;
-    let (seeding, centres) = milliseconds(|| {
-        let seed = |k: usize| {
-            let mut centres = vec![0usize; k];
-            at = unsafe { onc_seed_in(a, al, n, draws.as_ptr(), draws.len(), at, centres.as_mut_ptr(), k, weights.as_mut_ptr(), n) };
-            centres
-        };
-        (2..n).map(seed).collect::<Vec<_>>()
-    });
-    let (lloyd, labels) = milliseconds(|| {
-        let group = |centres: &Vec<usize>| {
-            let mut labels = vec![0usize; n];
-            unsafe { onc_lloyd_in(a, al, n, centres.as_ptr(), centres.len(), labels.as_mut_ptr(), n) };
-            labels
-        };
-        centres.iter().map(group).collect::<Vec<_>>()
-    });
-    let (scoring, (scores, stats)) = milliseconds(|| {
-        let score = |(labels, k): (&Vec<usize>, usize)| {
-            let mut scores = vec![0.0; n];
-            unsafe { onc_scores_in(a, al, n, labels.as_ptr(), n, k, scores.as_mut_ptr(), n) };
-            let stat = unsafe { onc_tstat_of(scores.as_ptr(), n) };
-            (scores, stat)
-        };
-        labels.iter().zip(2..).map(score).unzip()
-    });
-    ([distances, seeding, lloyd, scoring], candidates(centres, labels, scores, stats))
+    let seed = |k: usize| {
+        let mut centres = vec![0usize; k];
+        at = unsafe { onc_seed_in(a, al, n, draws.as_ptr(), draws.len(), at, centres.as_mut_ptr(), k, weights.as_mut_ptr(), n) };
+        centres
+    };
+    let centres: Vec<_> = meter.run(|| (2..n).map(seed).collect());
+    let group = |centres: &Vec<usize>| {
+        let mut labels = vec![0usize; n];
+        unsafe { onc_lloyd_in(a, al, n, centres.as_ptr(), centres.len(), labels.as_mut_ptr(), n) };
+        labels
+    };
+    let labels: Vec<_> = meter.run(|| centres.iter().map(group).collect());
+    let score = |(labels, k): (&Vec<usize>, usize)| {
+        let mut scores = vec![0.0; n];
+        unsafe { onc_scores_in(a, al, n, labels.as_ptr(), n, k, scores.as_mut_ptr(), n) };
+        let stat = unsafe { onc_tstat_of(scores.as_ptr(), n) };
+        (scores, stat)
+    };
+    let (scores, stats) = meter.run(|| labels.iter().zip(2..).map(score).unzip());
+    candidates(centres, labels, scores, stats)
 }
 
 /// The phases of the first round and, last, their sum: of the Rust and of the library; and whether all candidates are the same.
 fn phases(case: &Case, runs: usize) -> ([Vec<Times>; 2], bool) {
-    let (mut rust, mut library, mut equal) = (Vec::new(), Vec::new(), true);
+    let (mut rust, mut library, mut equal) = (Meter::Clock(Vec::new()), Meter::Clock(Vec::new()), true);
     for _ in 0..runs {
-        let (took, want) = rust_round(case);
-        rust.push(took);
-        let (took, found) = library_round(case);
-        library.push(took);
-        equal &= found == want;
+        equal &= rust_round(case, &mut rust) == library_round(case, &mut library);
     }
-    let times = |took: Vec<[f64; 4]>| {
-        let of = |time: &dyn Fn(&[f64; 4]) -> f64| Times::of(took.iter().map(time).collect());
-        (0..4).map(|phase| of(&|t| t[phase])).chain([of(&|t| t.iter().sum())]).collect()
+    let by_phase = |meter: Meter| {
+        let times = meter.times();
+        let of = |phase: usize| Times::of(times.iter().skip(phase).step_by(4).copied().collect());
+        let sum = Times::of(times.chunks(4).map(|round| round.iter().sum()).collect());
+        (0..4).map(of).chain([sum]).collect()
     };
-    ([times(rust), times(library)], equal)
+    ([rust, library].map(by_phase), equal)
 }
 
 /// How many times runs are taken of a size.
 fn times_of(n: usize, runs: usize) -> usize {
     match n {
-        0..=20 => 10 * runs,
-        21..=100 => runs,
+        0..=50 => 10 * runs,
+        51..=100 => runs,
         _ => runs.min(3),
     }
 }
@@ -213,21 +245,15 @@ pub fn time(runs: usize) -> bool {
     right
 }
 
-/// One run of one side; a tool that counts instructions looks at nothing but this function.
-#[no_mangle]
-#[inline(never)]
-fn counted_run(rust: bool, case: &Case, lists: &mut Lists) -> usize {
-    if rust {
-        get_onc_clusters_with_seed(&case.rows, 1, SEED).map_or(0, |found| found.clusters.len())
-    } else {
-        lists.run(&case.call)
-    }
-}
-
-pub fn count(side: &str, n: usize) -> bool {
+/// One side alone, on what it is asked to count: a phase of the first round, or else a whole run.
+pub fn count(side: &str, what: &str, n: usize) -> bool {
     let case = case(n);
-    let mut lists = Lists::new(&case.call);
-    install(Control::plain());
-    black_box(counted_run(black_box(side == "rust"), &case, &mut lists));
-    side == "rust" || lists.hold(&case.want)
+    let phase = PHASES.iter().position(|&phase| phase == what);
+    let meter = &mut Meter::Count { before: phase.unwrap_or(0) };
+    match (side, phase) {
+        ("rust", None) => rust_run(&case, meter),
+        ("rust", _) => rust_round(&case, meter)[1].len() == n - 2,
+        (_, None) => library_run(&case, &mut Lists::new(&case.call), meter),
+        _ => library_round(&case, meter)[1].len() == n - 2,
+    }
 }
