@@ -50,7 +50,7 @@ build compare
 if [ "$1" != count ]; then
   exec "$work/build/release/compare" "$@"
 fi
-# one side alone, on one phase or a whole run; only what runs inside the function `counted` is counted
+# one side on one phase or a whole run: what runs inside the function `counted`
 instructions() {
   valgrind -q --tool=callgrind --toggle-collect=counted --callgrind-out-file="$work/callgrind.$1" "$work/build/release/compare" count "$@"
   sed -n 's/^summary: *//p' "$work/callgrind.$1"

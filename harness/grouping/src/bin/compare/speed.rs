@@ -57,7 +57,7 @@ fn counted(run: &mut dyn FnMut()) {
     run();
 }
 
-/// What is done with runs one after the other: all timed, in milliseconds, or one of them counted.
+/// What is done with runs one after the other: all are timed, in milliseconds; or one of them is counted, with so many before it.
 enum Meter {
     Clock(Vec<f64>),
     Count { before: usize },
@@ -245,15 +245,14 @@ pub fn time(runs: usize) -> bool {
     right
 }
 
-/// One side alone, on what it is asked to count: a phase of the first round, or else a whole run.
+/// Both sides on a phase of the first round, or else on a whole run, one of them counted; whether their answers are the same.
 pub fn count(side: &str, what: &str, n: usize) -> bool {
     let case = case(n);
     let phase = PHASES.iter().position(|&phase| phase == what);
-    let meter = &mut Meter::Count { before: phase.unwrap_or(0) };
-    match (side, phase) {
-        ("rust", None) => rust_run(&case, meter),
-        ("rust", _) => rust_round(&case, meter)[1].len() == n - 2,
-        (_, None) => library_run(&case, &mut Lists::new(&case.call), meter),
-        _ => library_round(&case, meter)[1].len() == n - 2,
+    let (counting, other) = (&mut Meter::Count { before: phase.unwrap_or(0) }, &mut Meter::Clock(Vec::new()));
+    let (rust, library) = if side == "rust" { (counting, other) } else { (other, counting) };
+    match phase {
+        Some(_) => rust_round(&case, rust) == library_round(&case, library),
+        None => rust_run(&case, rust) && library_run(&case, &mut Lists::new(&case.call), library),
     }
 }
