@@ -198,6 +198,17 @@ fn times_of(n: usize, runs: usize) -> usize {
     }
 }
 
+/// Nanoseconds of a cycle, by a chain of integer products, which take 3 cycles each: the limits in docs/SPEED.md are counted in cycles.
+fn cycle() -> f64 {
+    const STEPS: u32 = 10_000_000;
+    let times = (0..9).map(|_| {
+        let began = Instant::now();
+        black_box((0..STEPS).fold(1u64, |x, _| x.wrapping_mul(black_box(3))));
+        began.elapsed().as_nanos() as f64 / f64::from(3 * STEPS)
+    });
+    times.fold(f64::INFINITY, f64::min)
+}
+
 fn answers(equal: bool) -> &'static str {
     if equal {
         "equal"
@@ -242,6 +253,7 @@ pub fn time(runs: usize) -> bool {
         row.extend((0..4).map(|phase| rounds[i][1][phase] / rounds[i - 1][1][phase]));
         println!("| {} to {} | {} |", NAMES[i - 1], NAMES[i], row.iter().map(|x| format!("{x:.1}")).collect::<Vec<_>>().join(" | "));
     }
+    println!("\nA cycle takes {:.2} ns.", cycle());
     right
 }
 
