@@ -200,8 +200,8 @@ fn times_of(n: usize, runs: usize) -> usize {
 
 /// Nanoseconds of a cycle, by a chain of integer products, which take 3 cycles each: the limits in docs/SPEED.md are counted in cycles.
 fn cycle() -> f64 {
-    const STEPS: u32 = 10_000_000;
-    let times = (0..9).map(|_| {
+    const STEPS: u32 = 100_000;
+    let times = (0..1000).map(|_| {
         let began = Instant::now();
         black_box((0..STEPS).fold(1u64, |x, _| x.wrapping_mul(black_box(3))));
         began.elapsed().as_nanos() as f64 / f64::from(3 * STEPS)
