@@ -201,6 +201,17 @@ for n in (4, 5):
 for n, pairs, labels in GROUPS:
     case(13, n=n, a=pairs, b=labels, out=n, floats=room(n) + 1, values=silhouettes(pairs, n, labels))
 
+# ---- Rousseeuw 1987: the dissimilarities of twelve countries in three groups, and the silhouettes as printed there, with two decimals
+# Belgium, Brazil, China, Cuba, Egypt, France, India, Israel, USA, USSR, Yugoslavia, Zaire
+BELOW = [[], [5.58], [7.00, 6.50], [7.08, 7.00, 3.83], [4.83, 5.08, 8.17, 5.83], [2.17, 5.75, 6.67, 6.92, 4.92], [6.42, 5.00, 5.58, 6.00, 4.67, 6.42],
+         [3.42, 5.50, 6.42, 6.42, 5.00, 3.92, 6.17], [2.50, 4.92, 6.25, 7.33, 4.50, 2.25, 6.33, 2.75], [6.08, 6.67, 4.25, 2.67, 6.00, 6.17, 6.17, 6.92, 6.17],
+         [5.25, 6.83, 4.50, 3.75, 5.75, 5.42, 6.08, 5.83, 6.67, 3.67], [4.75, 3.00, 6.08, 6.67, 5.00, 5.58, 4.83, 6.17, 5.67, 6.50, 6.92]]
+PAIRS = [0.0 if i == j else BELOW[max(i, j)][min(i, j)] for i in range(12) for j in range(12)]
+IN_GROUPS = [0, 1, 2, 2, 0, 0, 1, 0, 0, 2, 2, 1]
+SCORES = silhouettes(PAIRS, 12, IN_GROUPS)
+assert [round(s, 2) for s in SCORES] == [0.42, 0.25, 0.31, 0.48, 0.02, 0.44, 0.17, 0.37, 0.47, 0.44, 0.31, 0.28]
+case(13, n=12, a=PAIRS, b=IN_GROUPS, out=12, floats=room(12) + 1, values=SCORES)
+
 # ---- refusals, in the table's order: every list as it was
 BOOK = [1.0, 0.5, 0.5, 1.0]
 def refused(leaf, number, place=0, **given):

@@ -32,22 +32,22 @@ struct Outcome {
 }
 
 // Each list comes from a function that promises its length alone: a literal array would stand in every goal, cell by cell.
-fn buffer() -> [f64; 64]
-    ensures { λ r. ⌜ 64 ≡ length r ⌝ }
+fn buffer() -> [f64; 144]
+    ensures { λ r. ⌜ 144 ≡ length r ⌝ }
 {
-    [7.0; 64]
+    [7.0; 144]
 }
 
-fn number_buffer() -> [usize; 64]
-    ensures { λ r. ⌜ 64 ≡ length r ⌝ }
+fn number_buffer() -> [usize; 144]
+    ensures { λ r. ⌜ 144 ≡ length r ⌝ }
 {
-    [0; 64]
+    [0; 144]
 }
 
-fn working_list() -> [f64; 4096]
-    ensures { λ r. ⌜ 4096 ≡ length r ⌝ }
+fn working_list() -> [f64; 8192]
+    ensures { λ r. ⌜ 8192 ≡ length r ⌝ }
 {
-    [7.0; 4096]
+    [7.0; 8192]
 }
 
 fn many() -> [f64; 65537]
@@ -57,18 +57,18 @@ fn many() -> [f64; 65537]
 }
 
 // n words from `at` on, as doubles and as numbers.
-fn doubles_at(text: &[u8], at: usize, n: usize) -> [f64; 64]
-    requires { ⌜ n ≤ 64 ⌝ }
-    ensures { λ r. ⌜ 64 ≡ length r ⌝ }
+fn doubles_at(text: &[u8], at: usize, n: usize) -> [f64; 144]
+    requires { ⌜ n ≤ 144 ⌝ }
+    ensures { λ r. ⌜ 144 ≡ length r ⌝ }
 {
     let mut xs = buffer();
     words::doubles(text, at, &mut xs[..n]);
     xs
 }
 
-fn numbers_at(text: &[u8], at: usize, n: usize) -> [usize; 64]
-    requires { ⌜ n ≤ 64 ⌝ }
-    ensures { λ r. ⌜ 64 ≡ length r ⌝ }
+fn numbers_at(text: &[u8], at: usize, n: usize) -> [usize; 144]
+    requires { ⌜ n ≤ 144 ⌝ }
+    ensures { λ r. ⌜ 144 ≡ length r ⌝ }
 {
     let mut xs = number_buffer();
     words::numbers(text, at, &mut xs[..n]);
@@ -218,17 +218,17 @@ fn call_many(which: usize, n: usize) -> Outcome {
 // The case at `at`: eight words, and the expected answer after its two lists.
 fn read_case(text: &[u8], at: usize) -> Case
     requires { ⌜ at ≤ 20000 ⌝ }
-    ensures { λ r. ⌜ (r .a ≤ 64) × (r .b ≤ 64) × (r .out ≤ 64) × (r .floats ≤ 4096) × (at + 8 ≤ r .expected) × (r .expected ≤ 20136) ⌝ }
+    ensures { λ r. ⌜ (r .a ≤ 144) × (r .b ≤ 144) × (r .out ≤ 144) × (r .floats ≤ 8192) × (at + 8 ≤ r .expected) × (r .expected ≤ 20296) ⌝ }
 {
-    let a = words::size_from(text, at, 2, 64);
-    let b = words::size_from(text, at, 3, 64);
+    let a = words::size_from(text, at, 2, 144);
+    let b = words::size_from(text, at, 3, 144);
     Case {
         leaf: words::word_from(text, at, 0),
         n: words::word_from(text, at, 1) as usize,
         a,
         b,
-        out: words::size_from(text, at, 4, 64),
-        floats: words::size_from(text, at, 5, 4096),
+        out: words::size_from(text, at, 4, 144),
+        floats: words::size_from(text, at, 5, 8192),
         i: words::word_from(text, at, 6) as usize,
         j: words::word_from(text, at, 7) as usize,
         expected: at + 8 + a + b,
@@ -237,10 +237,10 @@ fn read_case(text: &[u8], at: usize) -> Case
 
 // Where the case after one starts whose expected answer stands at `expected`.
 fn after(text: &[u8], expected: usize) -> usize
-    requires { ⌜ expected ≤ 20136 ⌝ }
-    ensures { λ r. ⌜ (expected ≤ r) × (r ≤ 20203) ⌝ }
+    requires { ⌜ expected ≤ 20296 ⌝ }
+    ensures { λ r. ⌜ (expected ≤ r) × (r ≤ 20443) ⌝ }
 {
-    expected + 3 + words::size_from(text, expected, 2, 64)
+    expected + 3 + words::size_from(text, expected, 2, 144)
 }
 
 // Whether the text has this number, place and count of values at `expected`.
@@ -304,7 +304,7 @@ fn right_lists(
 
 // The same, on lists of the case's sizes.
 fn right_list(text: &[u8], c: Case, a: &[f64], rows: &[usize]) -> bool
-    requires { ⌜ (c .out ≤ 64) × (c .floats ≤ 4096) ⌝ }
+    requires { ⌜ (c .out ≤ 144) × (c .floats ≤ 8192) ⌝ }
 {
     let mut out = buffer();
     let mut floats = working_list();
@@ -335,7 +335,7 @@ fn right_value(text: &[u8], c: Case, a: &[f64], b: &[f64], rows: &[usize]) -> bo
 
 // Runs a case whose lists are read.
 fn right_read(text: &[u8], c: Case, a: &[f64], b: &[f64], rows: &[usize]) -> bool
-    requires { ⌜ (c .out ≤ 64) × (c .floats ≤ 4096) ⌝ }
+    requires { ⌜ (c .out ≤ 144) × (c .floats ≤ 8192) ⌝ }
 {
     if c.leaf < 8 {
         return right_value(text, c, a, b, rows);
@@ -348,7 +348,7 @@ fn right_read(text: &[u8], c: Case, a: &[f64], b: &[f64], rows: &[usize]) -> boo
 
 // Reads the case's lists, the second both as doubles and as numbers, and runs it.
 fn right_case(text: &[u8], at: usize, c: Case) -> bool
-    requires { ⌜ (at ≤ 20000) × (c .a ≤ 64) × (c .b ≤ 64) × (c .out ≤ 64) × (c .floats ≤ 4096) ⌝ }
+    requires { ⌜ (at ≤ 20000) × (c .a ≤ 144) × (c .b ≤ 144) × (c .out ≤ 144) × (c .floats ≤ 8192) ⌝ }
 {
     let n_a = c.a;
     let n_b = c.b;

@@ -19,7 +19,7 @@ doubles-requires : tie.Need-doubles-requires
 doubles-requires c κs = search needs
 
 returns : tie.Need-returns
-returns c = refilled 64 (c .before .before .before .before .before .args .n) (c .before .doubles .last .1 .1 .0) (c .before .before .before .buffer .result) (c .before .before .before .buffer .ensures) (c .before .before .before .before .before .pre) (c .before .doubles .kept .1 .1 .0)
+returns c = refilled 144 (c .before .before .before .before .before .args .n) (c .before .doubles .last .1 .1 .0) (c .before .before .before .buffer .result) (c .before .before .before .buffer .ensures) (c .before .before .before .before .before .pre) (c .before .doubles .kept .1 .1 .0)
 
 pub doubles-at-spec : {M : Type 1} → statement M
 doubles-at-spec =

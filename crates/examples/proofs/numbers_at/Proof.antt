@@ -19,7 +19,7 @@ numbers-requires : tie.Need-numbers-requires
 numbers-requires c κs = search needs
 
 returns : tie.Need-returns
-returns c = refilled 64 (c .before .before .before .before .before .args .n) (c .before .numbers .last .1 .1 .0) (c .before .before .before .number-buffer .result) (c .before .before .before .number-buffer .ensures) (c .before .before .before .before .before .pre) (c .before .numbers .kept .1 .1 .0)
+returns c = refilled 144 (c .before .before .before .before .before .args .n) (c .before .numbers .last .1 .1 .0) (c .before .before .before .number-buffer .result) (c .before .before .before .number-buffer .ensures) (c .before .before .before .before .before .pre) (c .before .numbers .kept .1 .1 .0)
 
 pub numbers-at-spec : {M : Type 1} → statement M
 numbers-at-spec =

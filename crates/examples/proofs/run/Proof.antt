@@ -4,7 +4,7 @@ use Rattle.examples.proofs.run.Statement.{statement}
 use Rattle.examples.proofs.run.Tie as tie
 
 abbrev Inv-loop : tie.InvT-loop
-Inv-loop text words at₀ cases₀ differ₀ at cases differ = (words ≤ 15420) × (at ≤ 20203) × (cases ≤ at) × (differ ≤ cases)
+Inv-loop text words at₀ cases₀ differ₀ at cases differ = (words ≤ 15420) × (at ≤ 20443) × (cases ≤ at) × (differ ≤ cases)
 
 abbrev μ-loop : tie.MeasureT-loop
 μ-loop text words at₀ cases₀ differ₀ at cases differ = words - at
