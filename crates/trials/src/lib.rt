@@ -102,29 +102,13 @@ fn potential(weights: &[f64], squares: &[f64]) -> f64
     sum
 }
 
-// Two potentials: one addition does not wait for the other.
+// Two potentials.
 struct Potentials {
     first: f64,
     second: f64,
 }
 
-fn two_potentials(weights: &[f64], a: &[f64], b: &[f64]) -> Potentials
-    requires { ⌜ (length (now a) ≡ length (now weights)) × (length (now b) ≡ length (now weights)) ⌝ }
-    ensures { λ r. ⌜ (r .first ≡ sumTo (λ i. spec.lesser (cells (now (weights .entry)) i) (cells (now (a .entry)) i)) (length (now (weights .entry))))
-        × (r .second ≡ sumTo (λ i. spec.lesser (cells (now (weights .entry)) i) (cells (now (b .entry)) i)) (length (now (weights .entry)))) ⌝ }
-{
-    let m = weights.len();
-    let mut first = 0.0;
-    let mut second = 0.0;
-    for i in 0..m {
-        let w = weights[i];
-        first = first + lesser(w, a[i]);
-        second = second + lesser(w, b[i]);
-    }
-    Potentials { first, second }
-}
-
-// The same where no weight is a NaN.
+// Two potentials where no weight is a NaN, side by side: an addition waits only for the one before it in its own sum.
 fn two_least(weights: &[f64], a: &[f64], b: &[f64]) -> Potentials
     requires { ⌜ (length (now a) ≡ length (now weights)) × (length (now b) ≡ length (now weights)) ⌝ }
     ensures { λ r. ⌜ (r .first ≡ sumTo (λ i. spec.least (cells (now (weights .entry)) i) (cells (now (a .entry)) i)) (length (now (weights .entry))))
@@ -142,13 +126,16 @@ fn two_least(weights: &[f64], a: &[f64], b: &[f64]) -> Potentials
 }
 
 // Two potentials, by the total of the weights: where it is a number, no weight is a NaN.
-fn weigh_two(weights: &[f64], total: f64, a: &[f64], b: &[f64]) -> Potentials
+fn two_potentials(weights: &[f64], total: f64, a: &[f64], b: &[f64]) -> Potentials
     requires { ⌜ (length (now a) ≡ length (now weights)) × (length (now b) ≡ length (now weights)) × (total ≡ sumTo (cells (now weights)) (length (now weights))) ⌝ }
     ensures { λ r. ⌜ (r .first ≡ sumTo (λ i. spec.lesser (cells (now (weights .entry)) i) (cells (now (a .entry)) i)) (length (now (weights .entry))))
         × (r .second ≡ sumTo (λ i. spec.lesser (cells (now (weights .entry)) i) (cells (now (b .entry)) i)) (length (now (weights .entry)))) ⌝ }
 {
     if total != total {
-        return two_potentials(weights, a, b);
+        return Potentials {
+            first: potential(weights, a),
+            second: potential(weights, b),
+        };
     }
     two_least(weights, a, b)
 }
@@ -182,7 +169,7 @@ fn try_two(squares: &[f64], weights: &[f64], sums: &[f64], total: f64, c: u64, d
     let m = weights.len();
     let p = pick(sums, total, c);
     let q = pick(sums, total, d);
-    let x = weigh_two(
+    let x = two_potentials(
         weights,
         total,
         lists::row_of(squares, m, p),

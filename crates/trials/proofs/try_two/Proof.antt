@@ -34,14 +34,14 @@ row-of-requires c κs = let p = c .before .before .before .before .before .pre .
 row-of-requires-2 : tie.Need-row-of-requires-2
 row-of-requires-2 c κs = let p = c .before .before .before .before .before .before .pre .0 .0 in (p .few, omega (arith, p .square), below-2 (c .before))
 
-weigh-two-requires : tie.Need-weigh-two-requires
-weigh-two-requires c κs =
+two-potentials-requires : tie.Need-two-potentials-requires
+two-potentials-requires c κs =
     let n = length (c .before .before .before .before .before .before .before .args .weights .now) in
     (rw (c .before .row-of .ensures) (row-long (c .before .before .before .before .before .before .before .args .squares .now) n (c .before .before .before .pick .result) (omega (arith, c .before .before .before .before .before .before .before .pre .0 .0 .square)) (below (c .before .before .before))), rw (c .row-of2 .ensures) (row-long (c .before .before .before .before .before .before .before .args .squares .now) n (c .before .before .pick2 .result) (omega (arith, c .before .before .before .before .before .before .before .pre .0 .0 .square)) (below-2 (c .before .before))), c .before .before .before .before .before .before .before .pre .0 .2)
 
 returns : tie.Need-returns
 returns c =
-    let e = c .weigh-two .ensures in
+    let e = c .two-potentials .ensures in
     (rw (e .0, c .before .before .row-of .ensures, picked (c .before .before .before .before)), rw (e .1, c .before .row-of2 .ensures, picked-2 (c .before .before .before)))
 
 pub try-two-spec : {M : Type 1} → statement M
@@ -52,5 +52,5 @@ try-two-spec =
     pick-requires-2
     row-of-requires
     row-of-requires-2
-    weigh-two-requires
+    two-potentials-requires
     returns)

@@ -1,87 +1,28 @@
-use Prim.Native.Nat.{_-_, _≤_}
-use mathlib.Core.Path.{_∙_, _≡_, ap, refl}
-use native.Mathlib.Omega.{arith}
 use lib.ListN.{length}
-use lib.Ieee.{add, binary64, ofBits}
-use Rattle.trials.specs.Trials.{lesser}
-use Rattle.lists.specs.Sums.{sumTo}
 use Rattle.lists.specs.Lists.{cells}
-use Rattle.draws.proofs.Table.{at}
-use Rattle.lists.proofs.Sums.{sum-more}
+use Rattle.trials.proofs.Picks.{least-sum}
 use Rattle.trials.proofs.two_potentials.Statement.{statement}
 use Rattle.trials.proofs.two_potentials.Tie as tie
 
-abbrev Inv-loop : tie.InvT-loop
-Inv-loop weights a b m first₀ second₀ i₀ first second i = (m ≡ length weights) × (i ≤ m) × (first ≡ sumTo (λ k. lesser (cells weights k) (cells a k)) i) × (second ≡ sumTo (λ k. lesser (cells weights k) (cells b k)) i)
+potential-requires : tie.Need-potential-requires
+potential-requires c κs = c .before .before .before .before .pre .0
 
-abbrev μ-loop : tie.MeasureT-loop
-μ-loop weights a b m first₀ second₀ i₀ first second i = m - i
+potential-requires-2 : tie.Need-potential-requires-2
+potential-requires-2 c κs = c .before .before .before .before .before .pre .1
 
-loop-holds : tie.Need-loop-holds Inv-loop μ-loop
-unfolding sumTo ofBits
-loop-holds c = (refl, omega arith, refl, refl)
+returns : tie.Need-returns
+returns c = (c .before .potential .ensures, c .potential2 .ensures)
 
-mul-w : tie.Need-mul-w Inv-loop μ-loop
-mul-w c = omega arith
+two-least-requires : tie.Need-two-least-requires
+two-least-requires c κs = (c .before .before .before .before .pre .0, c .before .before .before .before .pre .1)
 
-shared-slice-read-w : tie.Need-shared-slice-read-w Inv-loop μ-loop
-shared-slice-read-w c = omega arith
-
-mul-lesser : tie.Need-mul-lesser Inv-loop μ-loop
-mul-lesser c = omega arith
-
-shared-slice-read-lesser : tie.Need-shared-slice-read-lesser Inv-loop μ-loop
-shared-slice-read-lesser c = omega arith
-
-lesser-requires : tie.Need-lesser-requires Inv-loop μ-loop
-lesser-requires c κs = tt
-
-mul-lesser-2 : tie.Need-mul-lesser-2 Inv-loop μ-loop
-mul-lesser-2 c = omega arith
-
-shared-slice-read-lesser-2 : tie.Need-shared-slice-read-lesser-2 Inv-loop μ-loop
-shared-slice-read-lesser-2 c = omega arith
-
-lesser-requires-2 : tie.Need-lesser-requires-2 Inv-loop μ-loop
-lesser-requires-2 c κs = tt
-
-add-i : tie.Need-add-i Inv-loop μ-loop
-add-i c = omega arith
-
-loop-less : tie.Need-loop-less Inv-loop μ-loop
-loop-less c = omega arith
-
-loop-again : tie.Need-loop-again Inv-loop μ-loop
-loop-again c =
-    let s = c .before .before .before .before .before .before .before .before .before .before .args in
-    let l = c .before .before .before .before .before .before .loop in (
-      refl,
-      omega arith,
-      ap (add binary64 (l .first)) (c .before .before .lesser .ensures) ∙ sum-more (λ k. lesser (cells (s .weights .now) k) (cells (s .a .now) k)) (l .i) (l .inv .2),
-      ap (add binary64 (l .second)) (c .lesser2 .ensures) ∙ sum-more (λ k. lesser (cells (s .weights .now) k) (cells (s .b .now) k)) (l .i) (l .inv .3),
-    )
-
-returns : tie.Need-returns Inv-loop μ-loop
-returns c =
-    let e : c .before .loop .i ≡ length (c .before .before .before .before .before .args .weights .now) = omega arith in
-    (rw e at (c .before .loop .inv .2), rw e at (c .before .loop .inv .3))
+returns-2 : tie.Need-returns-2
+returns-2 c =
+    let w = cells (c .before .before .before .before .before .args .weights .now) in
+    let m = length (c .before .before .before .before .before .args .weights .now) in
+    (least-sum w (cells (c .before .before .before .before .before .args .a .now)) m (c .before .before .before .before .before .pre .2) (c .before .if1 .left) (c .two-least .ensures .0), least-sum w (cells (c .before .before .before .before .before .args .b .now)) m (c .before .before .before .before .before .pre .2) (c .before .if1 .left) (c .two-least .ensures .1))
 
 pub two-potentials-spec : {M : Type 1} → statement M
 two-potentials-spec =
     tie.close
-    (tie.spec
-    Inv-loop
-    μ-loop
-    loop-holds
-    mul-w
-    shared-slice-read-w
-    mul-lesser
-    shared-slice-read-lesser
-    lesser-requires
-    mul-lesser-2
-    shared-slice-read-lesser-2
-    lesser-requires-2
-    add-i
-    loop-less
-    loop-again
-    returns)
+    (tie.spec potential-requires potential-requires-2 returns two-least-requires returns-2)
