@@ -201,7 +201,7 @@ for n in (4, 5):
 for n, pairs, labels in GROUPS:
     case(13, n=n, a=pairs, b=labels, out=n, floats=room(n) + 1, values=silhouettes(pairs, n, labels))
 
-# ---- Rousseeuw 1987: the dissimilarities of twelve countries in three groups, and the silhouettes as printed there, with two decimals
+# ---- the dissimilarities of twelve countries in three groups, Rousseeuw's example of 1987, and the silhouettes with two decimals
 # Belgium, Brazil, China, Cuba, Egypt, France, India, Israel, USA, USSR, Yugoslavia, Zaire
 BELOW = [[], [5.58], [7.00, 6.50], [7.08, 7.00, 3.83], [4.83, 5.08, 8.17, 5.83], [2.17, 5.75, 6.67, 6.92, 4.92], [6.42, 5.00, 5.58, 6.00, 4.67, 6.42],
          [3.42, 5.50, 6.42, 6.42, 5.00, 3.92, 6.17], [2.50, 4.92, 6.25, 7.33, 4.50, 2.25, 6.33, 2.75], [6.08, 6.67, 4.25, 2.67, 6.00, 6.17, 6.17, 6.92, 6.17],
