@@ -10,8 +10,9 @@ use lib.ListN.{length, set}
 use Rattle.lists.proofs.Tests.{impossible}
 use Rattle.refusals.specs.Table.{Refusal, refused, refusal, when, unless}
 use Rattle.refusals.proofs.Laws.{accepted, when-none, unless-none}
-use Rattle.onc.specs.declared.Onc.{Onc}
-use Rattle.onc.specs.Onc.{numberOf, placeOf, groupsOf, readOf, answerOf, shapeOf, Lists, Outcome}
+use Rattle.onc_answers.specs.declared.Onc.{Onc}
+use Rattle.onc_answers.specs.Answers.{numberOf, placeOf, groupsOf, readOf, answerOf, shapeOf}
+use Rattle.onc.specs.Onc.{Lists, Outcome}
 use Rattle.exports.specs.Grouping.{GroupingTold, groupingTold}
 
 four : (xs : List ℕ) (a b c d : ℕ) → length xs ≡ 4 → set (set (set (set xs 0 a) 1 b) 2 c) 3 d ≡ a ∷ b ∷ c ∷ d ∷ []

@@ -9,14 +9,15 @@ ghost use Rattle.stats.specs.Average as stats;
 ghost use Rattle.stats.specs.Average.{averagedOf};
 ghost use Rattle.intake.specs.Intake as intake;
 ghost use Rattle.intake.specs.Intake.{intakeOf};
-ghost use Rattle.onc.specs.Onc as grouping;
-ghost use Rattle.onc.specs.Onc.{shapeOf, groupOf};
+ghost use Rattle.onc_answers.specs.Answers as grouping;
+ghost use Rattle.onc_answers.specs.Answers.{shapeOf};
+ghost use Rattle.onc.specs.Onc.{groupOf};
 ghost use Rattle.exports.specs.Grouping.{groupingTold};
 ghost use Rattle.exports.specs.Average.{numberWithout, averageTold};
 ghost use Rattle.exports.specs.Book.{bookShape, bookTold};
 ghost use Rattle.exports.specs.Draws.{drawsFor};
 use intake::Intake;
-use onc::Onc;
+use onc_answers::Onc;
 use stats::Average;
 
 // 0 where the list for the answer has four places; else the number by which the grouping is refused: 1, 2, 4, 5 or 6.
@@ -26,7 +27,7 @@ fn grouping_refused(repeat: usize, rows: usize, cols: usize, cells: usize, place
     if places == 4 {
         return 0;
     }
-    onc::number_of(onc::check(repeat, rows, cols, cells, false))
+    onc_answers::number_of(onc_answers::check(repeat, rows, cols, cells, false))
 }
 
 // The number, the place, the groups and the draws read, in a list of four; the number.
@@ -34,11 +35,11 @@ fn tell_grouping(a: Onc, answer: &mut [usize]) -> usize
     requires { ⌜ length (now answer) ≡ 4 ⌝ }
     ensures { λ r. ⌜ (r ≡ grouping.numberOf a) × (now (answer .exit) ≡ grouping.numberOf a ∷ grouping.placeOf a ∷ grouping.groupsOf a ∷ grouping.readOf a ∷ []) ⌝ }
 {
-    let number = onc::number_of(a);
+    let number = onc_answers::number_of(a);
     answer[0] = number;
-    answer[1] = onc::place_of(a);
-    answer[2] = onc::groups_of(a);
-    answer[3] = onc::read_of(a);
+    answer[1] = onc_answers::place_of(a);
+    answer[2] = onc_answers::groups_of(a);
+    answer[3] = onc_answers::read_of(a);
     number
 }
 

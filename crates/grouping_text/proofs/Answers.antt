@@ -21,8 +21,9 @@ use Rattle.partition.specs.Orders.{cut, Sized}
 use Rattle.partition.proofs.Cuts.{cut-joined, groups-few, partition-length, sized-of}
 use Rattle.rounds.specs.Round.{Run, done, ended}
 use Rattle.rounds.proofs.Runs.{Whole}
-use Rattle.onc.specs.declared.Onc.{Onc}
-use Rattle.onc.specs.Onc.{Answer, Lists, Outcome, numberOf, placeOf, groupsOf, readOf, answerOf, shapeOf, shape, runOf, ran, groupOf}
+use Rattle.onc_answers.specs.declared.Onc.{Onc}
+use Rattle.onc_answers.specs.Answers.{Answer, numberOf, placeOf, groupsOf, readOf, answerOf, shapeOf}
+use Rattle.onc.specs.Onc.{Lists, Outcome, shape, runOf, ran, groupOf}
 use Rattle.onc.proofs.Shapes.{shape-within}
 use Rattle.onc.proofs.Calls.{by-call}
 use Rattle.onc.proofs.Groupings.{run-whole}

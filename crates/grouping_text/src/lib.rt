@@ -110,13 +110,13 @@ fn group_with(
         floats,
         numbers,
     );
-    let number = onc::number_of(a);
+    let number = onc_answers::number_of(a);
     if number != 0 {
-        return answer_text::write_refusal(number, onc::place_of(a), out);
+        return answer_text::write_refusal(number, onc_answers::place_of(a), out);
     }
     write_groups(
-        onc::groups_of(a),
-        onc::read_of(a),
+        onc_answers::groups_of(a),
+        onc_answers::read_of(a),
         order,
         sizes,
         scores,

@@ -3,7 +3,7 @@
 ghost use Prim.Native.Nat.{_≤_};
 ghost use mathlib.Core.Path.{_≡_};
 ghost use lib.ListN.{length};
-use onc::Onc;
+use onc_answers::Onc;
 
 // Lists for 257 names. Each comes from a function that promises its length alone: a literal array would stand in every goal, cell by cell.
 fn cell_list() -> [f64; 66049]
@@ -70,9 +70,9 @@ fn print_answer(n: usize)
     let a = asked(n);
     io::print_decimal(1, n as u64);
     io::write_all(1, b" names: refused ");
-    io::print_decimal(1, onc::number_of(a) as u64);
+    io::print_decimal(1, onc_answers::number_of(a) as u64);
     io::write_all(1, b" at ");
-    io::print_decimal(1, onc::place_of(a) as u64);
+    io::print_decimal(1, onc_answers::place_of(a) as u64);
     io::write_all(1, b"\n");
 }
 

@@ -11,8 +11,9 @@ use Rattle.refusals.specs.Table.{Refusal}
 use Rattle.draws.specs.declared.Stop.the-variants.{Rounds, Short, DrawOutOfRange, ClusteringFailed}
 use Rattle.partition.specs.Partition.{has}
 use Rattle.rounds.specs.Round.{Run, done, ended}
-use Rattle.onc.specs.declared.Onc.{Onc}
-use Rattle.onc.specs.Onc.{Answer, Lists, Outcome, numberOf, answerOf, listsFit, shapeOf, shape, refusing, runOf, ran, groupOf}
+use Rattle.onc_answers.specs.declared.Onc.{Onc}
+use Rattle.onc_answers.specs.Answers.{Answer, numberOf, answerOf, listsFit, shapeOf, refusing}
+use Rattle.onc.specs.Onc.{Lists, Outcome, shape, runOf, ran, groupOf}
 use Rattle.onc.specs.Steps.{Fair}
 use Rattle.onc.specs.Demands.{Demand1, grouping, not-started, not-ended, Within}
 use Rattle.onc.proofs.Shapes.{shape-cause, shape-place, shape-within, within-shape, shape-asked}

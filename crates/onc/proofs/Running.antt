@@ -18,8 +18,9 @@ use Rattle.top.specs.declared.Top.the-variants.{Done, Stopped as Ended}
 use Rattle.rounds.specs.Round.{Run, done, ended, roundOf}
 use Rattle.top.specs.Steps.{Ready, Rounded, topOf, orderAfter, sizesAfter, scoresAfter}
 use Rattle.rounds.proofs.Runs.{Whole}
-use Rattle.onc.specs.declared.Onc.the-variants.{Grouped, Stopped}
-use Rattle.onc.specs.Onc.{Lists, Outcome, answerOf, runOf, ran}
+use Rattle.onc_answers.specs.declared.Onc.the-variants.{Grouped, Stopped}
+use Rattle.onc_answers.specs.Answers.{answerOf}
+use Rattle.onc.specs.Onc.{Lists, Outcome, runOf, ran}
 use Rattle.onc.specs.Steps.{Fair, Ran}
 use Rattle.onc.proofs.Groupings.{all, all-length}
 

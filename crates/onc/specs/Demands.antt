@@ -18,7 +18,8 @@ use Rattle.quality.specs.Quality.{qualitiesOf, weakCount}
 use Rattle.base.specs.Base.{baseOf}
 use Rattle.improve.specs.Improve.{weakItems}
 use Rattle.rounds.specs.Round.{Run, done, ended, needOf, rowsOf, totalOf}
-use Rattle.onc.specs.Onc.{Answer, Lists, Outcome, listsFit, refusing, runOf, ran, groupOf}
+use Rattle.onc_answers.specs.Answers.{Answer, listsFit, refusing}
+use Rattle.onc.specs.Onc.{Lists, Outcome, runOf, ran, groupOf}
 
 -- what a call returns and leaves in its outputs. No list of labels is lent: the label of a name is the number of the group that has it, which
 -- follows from the count of groups in the answer, the sizes and the order (`cut`), so outputs that are equal give equal labels

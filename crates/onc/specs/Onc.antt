@@ -1,68 +1,18 @@
 -- The grouping of a book: what a call answers, and what it leaves in every list that it was lent. Definitions only.
-use Prim.Native.Nat.{ℕ, _*_}
-use mathlib.Core.Bool.{Bool, cond, _&&_}
+use Prim.Native.Nat.{ℕ}
+use mathlib.Core.Bool.{cond}
 use mathlib.Core.List.{List}
-use lib.Dec.{eqb, ltb, leb}
+use lib.Dec.{eqb}
 use lib.ListN.{length}
 use lib.Ieee.{Float}
 use Rattle.lists.specs.Lists.{listed, grid}
-use Rattle.refusals.specs.Table.{Refusal, none, refused, when, unless, refusal, workDoubles, wiped, workNumbers, wipedNumbers}
+use Rattle.refusals.specs.Table.{Refusal, none, wiped, wipedNumbers}
 use Rattle.distance.specs.Distance.{through}
 use Rattle.draws.specs.Stops.{stopNumber, stopPlace}
 use Rattle.partition.specs.Partition.{joined}
 use Rattle.partition.specs.Orders.{sizesOf}
 use Rattle.rounds.specs.Round.{Run, done, ended, roundOf}
-use Rattle.onc.specs.declared.Onc.{Onc}
-use Rattle.onc.specs.declared.Onc.the-variants.{Grouped, InvalidRepeat, InvalidCorrelationMatrix, TooLarge, CellCount, ListLength, Stopped}
-
--- the table's number for each answer, 0 for a grouping; its place, 0 where the table names none; the groups and the draws read, 0 for a refusal
-abbrev pub numberOf : Onc → ℕ
-numberOf (Grouped groups draws) = 0
-numberOf InvalidRepeat = 1
-numberOf InvalidCorrelationMatrix = 2
-numberOf TooLarge = 4
-numberOf CellCount = 5
-numberOf ListLength = 6
-numberOf (Stopped s) = stopNumber s
-
-abbrev pub placeOf : Onc → ℕ
-placeOf (Grouped groups draws) = 0
-placeOf InvalidRepeat = 0
-placeOf InvalidCorrelationMatrix = 0
-placeOf TooLarge = 0
-placeOf CellCount = 0
-placeOf ListLength = 0
-placeOf (Stopped s) = stopPlace s
-
-abbrev pub groupsOf : Onc → ℕ
-groupsOf (Grouped groups draws) = groups
-groupsOf InvalidRepeat = 0
-groupsOf InvalidCorrelationMatrix = 0
-groupsOf TooLarge = 0
-groupsOf CellCount = 0
-groupsOf ListLength = 0
-groupsOf (Stopped s) = 0
-
-abbrev pub readOf : Onc → ℕ
-readOf (Grouped groups draws) = draws
-readOf InvalidRepeat = 0
-readOf InvalidCorrelationMatrix = 0
-readOf TooLarge = 0
-readOf CellCount = 0
-readOf ListLength = 0
-readOf (Stopped s) = 0
-
--- an answer, as the table gives it
-pub record Answer : Type 0 where
-  pub refused : Refusal
-  pub groups : ℕ
-  pub read : ℕ
-
-abbrev pub answerOf : Onc → Answer
-answerOf a = record { refused = record { number = numberOf a; place = placeOf a }; groups = groupsOf a; read = readOf a }
-
-abbrev pub refusing : Refusal → Answer
-refusing q = record { refused = q; groups = 0; read = 0 }
+use Rattle.onc_answers.specs.Answers.{Answer, refusing, listsFit, shapeOf}
 
 -- the lists that a call is lent: four outputs, two to work in
 pub record Lists : Type 0 where
@@ -76,20 +26,6 @@ pub record Lists : Type 0 where
 pub record Outcome : Type 0 where
   pub answer : Answer
   pub lists : Lists
-
--- outputs of exactly the lengths for n names, and lists to work in of at least theirs
-abbrev pub listsFit : ℕ → (order sizes scores ordered floats numbers : ℕ) → Bool
-listsFit n order sizes scores ordered floats numbers =
-    eqb order n && (eqb sizes n && (eqb scores n && (eqb ordered (n * n) && (leb (workDoubles n) floats && leb (workNumbers n) numbers))))
-
--- the rows of the table that keep every list: 1, 2, 4, 5, 6
-unfoldable pub shapeOf : (repeat rows cols cells : ℕ) → Bool → Refusal
-shapeOf repeat rows cols cells fits =
-    when (eqb repeat 0) (refused 1)
-    (unless (eqb rows cols) (refused 2)
-    (when (ltb rows 2) (refused 2)
-    (when (ltb 64 repeat) (refused 4)
-    (refusal cells rows rows fits 0 0))))
 
 abbrev pub shape : (book : List Float) (rows cols repeat : ℕ) → Lists → Refusal
 shape book rows cols repeat l =

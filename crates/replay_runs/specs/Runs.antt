@@ -6,7 +6,8 @@ use lib.Dec.{eqb}
 use lib.ListN.{length, replicate}
 use lib.Ieee.{Float}
 use Rattle.words.specs.Words.{wordFrom, sizeFrom, doublesFrom, wordsFrom, sameNumbers, sameDoubles, seven, namesWiped, leftLists, casesBy, differBy}
-use Rattle.onc.specs.Onc.{Answer, Lists, Outcome, groupOf}
+use Rattle.onc_answers.specs.Answers.{Answer}
+use Rattle.onc.specs.Onc.{Lists, Outcome, groupOf}
 use Rattle.replay_runs.specs.declared.Case.{Case}
 
 -- the case at `at`: eleven words, the cells, the draws, and then the expected answer

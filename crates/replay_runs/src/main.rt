@@ -11,10 +11,11 @@
 ghost use Prim.Native.Nat.{_+_, _≤_};
 ghost use mathlib.Core.Path.{_≡_};
 ghost use lib.ListN.{length, take, replicate};
-ghost use Rattle.onc.specs.Onc.{answerOf, groupOf};
+ghost use Rattle.onc_answers.specs.Answers.{answerOf};
+ghost use Rattle.onc.specs.Onc.{groupOf};
 ghost use Rattle.words.specs.Words.{seven, doublesFrom, wordsFrom};
 ghost use Rattle.replay_runs.specs.Runs.{caseAt, sameAnswer, sameOutputs, rightRun, rightLists, rightCase, casesIn, differIn};
-use onc::Onc;
+use onc_answers::Onc;
 use words::Counts;
 
 // The sizes of a case, and the word at which its expected answer starts.
@@ -130,16 +131,16 @@ fn read_case(text: &[u8], at: usize) -> Case
 fn same_answer(text: &[u8], expected: usize, a: Onc) -> bool
     ensures { λ r. ⌜ r ≡ sameAnswer (now (text .entry)) expected (answerOf a) ⌝ }
 {
-    if onc::number_of(a) as u64 != words::word_from(text, expected, 0) {
+    if onc_answers::number_of(a) as u64 != words::word_from(text, expected, 0) {
         return false;
     }
-    if onc::place_of(a) as u64 != words::word_from(text, expected, 1) {
+    if onc_answers::place_of(a) as u64 != words::word_from(text, expected, 1) {
         return false;
     }
-    if onc::groups_of(a) as u64 != words::word_from(text, expected, 2) {
+    if onc_answers::groups_of(a) as u64 != words::word_from(text, expected, 2) {
         return false;
     }
-    onc::read_of(a) as u64 == words::word_from(text, expected, 3)
+    onc_answers::read_of(a) as u64 == words::word_from(text, expected, 3)
 }
 
 // Whether it has these outputs behind that, one after the other.
@@ -200,7 +201,7 @@ fn same_run(
     if !same_outputs(text, c, order, sizes, scores, ordered) {
         return false;
     }
-    let names = words::names_wiped(onc::number_of(a), c.rows);
+    let names = words::names_wiped(onc_answers::number_of(a), c.rows);
     words::left_lists(names, floats, numbers)
 }
 

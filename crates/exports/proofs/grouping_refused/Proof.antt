@@ -1,7 +1,7 @@
 use mathlib.Core.Path.{_∙_, ap}
 use borrow.Author.Tests.{eq-eqb, ne-eqb}
 use borrow.Author.Needs.{needs}
-use Rattle.onc.specs.Onc.{Answer}
+use Rattle.onc_answers.specs.Answers.{Answer}
 use Rattle.exports.proofs.grouping_refused.Statement.{statement}
 use Rattle.exports.proofs.grouping_refused.Tie as tie
 

@@ -1,6 +1,6 @@
 use mathlib.Core.Path.{_∙_, _≡_, sym}
 use borrow.Author.Needs.{needs}
-use Rattle.onc.specs.Onc.{numberOf}
+use Rattle.onc_answers.specs.Answers.{numberOf}
 use Rattle.onc.proofs.Calls.{asked-fair, asked-kept, asked-ran}
 use Rattle.onc.proofs.get_onc_clusters_with_draws.Statement.{statement}
 use Rattle.onc.proofs.get_onc_clusters_with_draws.Tie as tie

@@ -1,0 +1,2 @@
+-- What the grouping answers.
+pub mod Answers
