@@ -7,12 +7,12 @@ use mathlib.Core.List.{List}
 use native.Mathlib.Omega.{arith}
 use native.Mathlib.Decide.{decLt}
 use lib.Ieee.{Float, add, binary64, nan}
-use Rattle.lists.specs.Sums.{squareFrom, zero64}
+use Rattle.lists.specs.Sums.{squareFrom, zero64, groupSize, inGroup}
 use Rattle.lists.specs.Lists.{numbers, firstTo}
 use Rattle.lists.proofs.First.{first-none, first-holds}
 use Rattle.lists.proofs.Sums.{all-true, fold-none, fold-same, sum-same}
 use Rattle.lists.proofs.Listed.{listed-same}
-use Rattle.centroids.specs.Groups.{distances, groupSize, mean, member, sameGroup}
+use Rattle.centroids.specs.Groups.{distances, mean, sameGroup}
 use Rattle.columns.specs.Pair.{squared}
 
 beq-eq : (a b : Bool) → Bool·beq a b ≡ true → a ≡ b
@@ -23,17 +23,17 @@ beq-eq false false h = refl
 
 -- groups with the same members
 module _ (old labels : List ℕ) (m l : ℕ) (s : sameGroup old labels m l ≡ true) where
-  members : (i : ℕ) → i < m → member (numbers old) l i ≡ member (numbers labels) l i
+  members : (i : ℕ) → i < m → inGroup (numbers old) l i ≡ inGroup (numbers labels) l i
   members i h =
-      beq-eq (member (numbers old) l i) (member (numbers labels) l i)
-      (all-true (λ i. Bool·beq (member (numbers old) l i) (member (numbers labels) l i)) m s i h)
+      beq-eq (inGroup (numbers old) l i) (inGroup (numbers labels) l i)
+      (all-true (λ i. Bool·beq (inGroup (numbers old) l i) (inGroup (numbers labels) l i)) m s i h)
 
   pub size-same : groupSize (numbers old) m l ≡ groupSize (numbers labels) m l
-  size-same = fold-same (member (numbers old) l) (member (numbers labels) l) (λ c k. c + 1) (λ c k. c + 1) 0 m members (λ c k q. refl)
+  size-same = fold-same (inGroup (numbers old) l) (inGroup (numbers labels) l) (λ c k. c + 1) (λ c k. c + 1) 0 m members (λ c k q. refl)
 
   pub mean-same : (x : ℕ → ℕ → Float) (c : ℕ) → mean x (numbers old) m l c ≡ mean x (numbers labels) m l c
   mean-same x c =
-      rw (size-same, fold-same (member (numbers old) l) (member (numbers labels) l) (λ a k. add binary64 a (x k c)) (λ a k. add binary64 a (x k c)) zero64 m members (λ a k q. refl))
+      rw (size-same, fold-same (inGroup (numbers old) l) (inGroup (numbers labels) l) (λ a k. add binary64 a (x k c)) (λ a k. add binary64 a (x k c)) zero64 m members (λ a k q. refl))
 
 -- items, and centroids, that agree in each column
 pub squared-agree : (a b f g : ℕ → Float) (m : ℕ) → ((c : ℕ) → c < m → a c ≡ b c) → ((c : ℕ) → c < m → f c ≡ g c) → squared a f m ≡ squared b g m
@@ -46,12 +46,12 @@ distances-agree x m f g h =
 -- means of items that agree
 pub mean-agree : (x y : ℕ → ℕ → Float) (label : ℕ → ℕ) (m l c : ℕ) → ((i : ℕ) → i < m → x i c ≡ y i c) → mean x label m l c ≡ mean y label m l c
 mean-agree x y label m l c e =
-    rw (fold-same (member label l) (member label l) (λ a k. add binary64 a (x k c)) (λ a k. add binary64 a (y k c)) zero64 m (λ k q. refl) (λ a k q. ap (add binary64 a) (e k q)))
+    rw (fold-same (inGroup label l) (inGroup label l) (λ a k. add binary64 a (x k c)) (λ a k. add binary64 a (y k c)) zero64 m (λ k q. refl) (λ a k q. ap (add binary64 a) (e k q)))
 
 -- a group with members has a first one
-pub first-in : (label : ℕ → ℕ) (m l : ℕ) {j : ℕ} → j ≡ firstTo (member label l) m → (groupSize label m l ≡ 0 → ⊥) → (j < m) × (member label l j ≡ true)
+pub first-in : (label : ℕ → ℕ) (m l : ℕ) {j : ℕ} → j ≡ firstTo (inGroup label l) m → (groupSize label m l ≡ 0 → ⊥) → (j < m) × (inGroup label l j ≡ true)
 first-in label m l {j} e some =
-    let below : firstTo (member label l) m < m =
-    by-cases (decLt (firstTo (member label l) m) m) (λ h. h)
-    (λ h. absurd (some (fold-none (member label l) (λ n k. n + 1) 0 m (first-none (member label l) m (omega arith))))) in
-    rw e (below, first-holds (member label l) m below)
+    let below : firstTo (inGroup label l) m < m =
+    by-cases (decLt (firstTo (inGroup label l) m) m) (λ h. h)
+    (λ h. absurd (some (fold-none (inGroup label l) (λ n k. n + 1) 0 m (first-none (inGroup label l) m (omega arith))))) in
+    rw e (below, first-holds (inGroup label l) m below)

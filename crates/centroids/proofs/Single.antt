@@ -16,10 +16,10 @@ use lib.Ieee.Scale.{round-same}
 use lib.Ieee.Bits.{ofBits-toBits}
 use lib.IntN.{negsuc, pos, ℤ}
 use lib.Pow.{pow-add, pow-lt, pow-pos}
-use Rattle.lists.specs.Sums.{countIf, counted, foldIf, squareFrom, zero64}
+use Rattle.lists.specs.Sums.{countIf, counted, foldIf, squareFrom, zero64, groupSize, inGroup, one64}
 use Rattle.lists.proofs.Sums.{sum-same}
 use Rattle.lists.proofs.Listed.{listed-same}
-use Rattle.centroids.specs.Groups.{distances, groupSize, mean, member, one64}
+use Rattle.centroids.specs.Groups.{distances, mean}
 use Rattle.columns.specs.Pair.{squared}
 
 -- the bits of a value from its sign and its size n, in units of the least double
@@ -178,12 +178,12 @@ inverse-one : div binary64 one64 (counted 1) ≡ one64
 unfolding div ofInt
 inverse-one = refl
 
-single-cell : (x : ℕ → ℕ → Float) (label : ℕ → ℕ) (m l j c : ℕ) (p : Float) → groupSize label m l ≡ 1 → j < m → member label l j ≡ true → T (fits binary64 p) → T (fits binary64 (x j c)) → squareFrom (mean x label m l c) p ≡ squareFrom (x j c) p
+single-cell : (x : ℕ → ℕ → Float) (label : ℕ → ℕ) (m l j c : ℕ) (p : Float) → groupSize label m l ≡ 1 → j < m → inGroup label l j ≡ true → T (fits binary64 p) → T (fits binary64 (x j c)) → squareFrom (mean x label m l c) p ≡ squareFrom (x j c) p
 single-cell x label m l j c p n h t g f =
-    rw (n, inverse-one, fold-one (member label l) (λ s k. add binary64 s (x k c)) zero64 m j n h t) (single p (x j c) g f)
+    rw (n, inverse-one, fold-one (inGroup label l) (λ s k. add binary64 s (x k c)) zero64 m j n h t) (single p (x j c) g f)
 
 -- of a group with one member j, the distances to the mean are those to j
-pub single-mean : (x : ℕ → ℕ → Float) (label : ℕ → ℕ) (m l j : ℕ) → groupSize label m l ≡ 1 → j < m → member label l j ≡ true → ((i c : ℕ) → i < m → c < m → T (fits binary64 (x i c)))
+pub single-mean : (x : ℕ → ℕ → Float) (label : ℕ → ℕ) (m l j : ℕ) → groupSize label m l ≡ 1 → j < m → inGroup label l j ≡ true → ((i c : ℕ) → i < m → c < m → T (fits binary64 (x i c)))
     → distances x m (mean x label m l) ≡ distances x m (x j)
 single-mean x label m l j n h t f =
     listed-same nan (λ i. squared (x i) (mean x label m l) m) (λ i. squared (x i) (x j) m) m

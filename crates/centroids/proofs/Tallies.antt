@@ -12,23 +12,23 @@ use lib.Dec.{eqb}
 use lib.ListN.{length, set, length-set}
 use lib.Seq.{getD-set-same, getD-set-other}
 use Rattle.lists.specs.Lists.{listed, numbers}
-use Rattle.lists.specs.Sums.{allTo}
+use Rattle.lists.specs.Sums.{allTo, inGroup, groupSize}
 use Rattle.lists.proofs.Sums.{fold-in, fold-out}
 use Rattle.lists.proofs.Listed.{getD-listed, listed-same, listed-set, listed-of}
 use Rattle.lists.proofs.Tests.{and-false, and-true, impossible}
-use Rattle.centroids.specs.Groups.{member, groupSize, sameGroup, movedMark}
+use Rattle.centroids.specs.Groups.{sameGroup, movedMark}
 
 -- item i is in none of the k groups, or in one of them
 pub size-skip : (label : ℕ → ℕ) (i k : ℕ) → k ≤ label i → listed (groupSize label i) k ≡ listed (groupSize label (i + 1)) k
-size-skip label i k h = listed-same 0 (groupSize label i) (groupSize label (i + 1)) k (λ l q. sym (fold-out (member label l) _ _ i (ne-eqb (label i) l (λ e. absurd (omega arith)))))
+size-skip label i k h = listed-same 0 (groupSize label i) (groupSize label (i + 1)) k (λ l q. sym (fold-out (inGroup label l) _ _ i (ne-eqb (label i) l (λ e. absurd (omega arith)))))
 
 pub size-add : (label : ℕ → ℕ) (i k : ℕ) {sizes : List ℕ} → sizes ≡ listed (groupSize label i) k → label i < k → set sizes (label i) (numbers sizes (label i) + 1) ≡ listed (groupSize label (i + 1)) k
 size-add label i k {sizes} e h =
     let v : numbers sizes (label i) ≡ groupSize label i (label i) = ap (λ (l : List ℕ). numbers l (label i)) e ∙ getD-listed (groupSize label i) k (label i) 0 h in
     rw (v, e)
     (listed-set 0 (groupSize label i) (groupSize label (i + 1)) k (label i) (groupSize label i (label i) + 1) h
-    (sym (fold-in (member label (label i)) _ _ i (eq-eqb (label i) (label i) refl)))
-    (λ l q d. sym (fold-out (member label l) _ _ i (ne-eqb (label i) l (λ c. d (sym c))))))
+    (sym (fold-in (inGroup label (label i)) _ _ i (eq-eqb (label i) (label i) refl)))
+    (λ l q d. sym (fold-out (inGroup label l) _ _ i (ne-eqb (label i) l (λ c. d (sym c))))))
 
 -- an item that stays in its group
 beq-same : (x : Bool) → Bool·beq x x ≡ true

@@ -9,24 +9,12 @@ use lib.IntN.{pos}
 use lib.ListN.{length}
 use lib.Ieee.{Float, fin, mul, div, binary64}
 use Rattle.lists.specs.Lists.{listed, numbers, cellAt, grid}
-use Rattle.lists.specs.Sums.{counted, allTo, sumIf, countIf}
+use Rattle.lists.specs.Sums.{one64, counted, allTo, sumIf, inGroup, groupSize}
 use Rattle.columns.specs.Pair.{squared}
-
--- 1
-abbrev pub one64 : Float
-one64 = fin false 1 (pos 0)
-
--- item i is in group l
-abbrev pub member : (ℕ → ℕ) → ℕ → ℕ → Bool
-member label l i = eqb (label i) l
-
--- how many items are in group l
-abbrev pub groupSize : (ℕ → ℕ) → ℕ → ℕ → ℕ
-groupSize label m l = countIf (member label l) m
 
 -- group l has the same members by both lists of labels
 abbrev pub sameGroup : List ℕ → List ℕ → ℕ → ℕ → Bool
-sameGroup a b m l = allTo (λ i. Bool·beq (member (numbers a) l i) (member (numbers b) l i)) m
+sameGroup a b m l = allTo (λ i. Bool·beq (inGroup (numbers a) l i) (inGroup (numbers b) l i)) m
 
 -- 1 where it has not, else 0
 abbrev pub movedMark : List ℕ → List ℕ → ℕ → ℕ → ℕ
@@ -34,7 +22,7 @@ movedMark a b m l = cond (sameGroup a b m l) 0 1
 
 -- column c of the mean of the n members of group l: their sum by rising row, times 1 / n
 abbrev pub meanOver : (ℕ → ℕ → Float) → (ℕ → ℕ) → ℕ → ℕ → ℕ → ℕ → Float
-meanOver x label m n l c = mul binary64 (sumIf (member label l) (λ i. x i c) m) (div binary64 one64 (counted n))
+meanOver x label m n l c = mul binary64 (sumIf (inGroup label l) (λ i. x i c) m) (div binary64 one64 (counted n))
 
 abbrev pub mean : (ℕ → ℕ → Float) → (ℕ → ℕ) → ℕ → ℕ → ℕ → Float
 mean x label m l = meanOver x label m (groupSize label m l) l

@@ -7,8 +7,8 @@ ghost use lib.Dec.{eqb};
 ghost use lib.ListN.{length};
 ghost use lib.Ieee.{binary64, add, mul, div};
 ghost use Rattle.lists.specs.Lists.{listed, cells, numbers, cellAt, firstTo};
-ghost use Rattle.lists.specs.Sums.{sumIf};
-ghost use Rattle.centroids.specs.Groups.{one64, member, groupSize, movedMark, meanOver, distances, Items};
+ghost use Rattle.lists.specs.Sums.{sumIf, one64, inGroup, groupSize};
+ghost use Rattle.centroids.specs.Groups.{movedMark, meanOver, distances, Items};
 
 // How many items each group has, of as many groups as the list has places.
 pub fn group_sizes(labels: &[usize], sizes: &mut [usize])
@@ -56,7 +56,7 @@ pub fn mark_moved(old: &[usize], labels: &[usize], marks: &mut [usize])
 
 // The first member of group l, and how many items there are where it has none.
 pub fn first_member(labels: &[usize], l: usize) -> usize
-    ensures { λ r. ⌜ r ≡ firstTo (member (numbers (now (labels .entry))) l) (length (now (labels .entry))) ⌝ }
+    ensures { λ r. ⌜ r ≡ firstTo (inGroup (numbers (now (labels .entry))) l) (length (now (labels .entry))) ⌝ }
 {
     let m = labels.len();
     for i in 0..m {
@@ -92,7 +92,7 @@ fn scale(out: &mut [f64], count: f64)
 // The rows of the members of group l, summed by rising row.
 fn sum_members(points: &[f64], labels: &[usize], l: usize, out: &mut [f64])
     requires { ⌜ (length (now labels) ≤ 256) × (length (now points) ≡ length (now labels) * length (now labels)) × (length (now out) ≡ length (now labels)) ⌝ }
-    ensures { λ _. ⌜ now (out .exit) ≡ listed (λ c. sumIf (member (numbers (now (labels .entry))) l) (λ i. cellAt (now (points .entry)) (length (now (labels .entry))) i c) (length (now (labels .entry)))) (length (now (labels .entry))) ⌝ }
+    ensures { λ _. ⌜ now (out .exit) ≡ listed (λ c. sumIf (inGroup (numbers (now (labels .entry))) l) (λ i. cellAt (now (points .entry)) (length (now (labels .entry))) i c) (length (now (labels .entry)))) (length (now (labels .entry))) ⌝ }
 {
     lists::fill(out, 0.0);
     let m = labels.len();

@@ -8,9 +8,7 @@ use lib.IntN.{pos}
 use lib.Ieee.{Float, fin, lt, sub, div, binary64}
 use Rattle.sqrt.specs.Root.{root}
 use Rattle.lists.specs.Lists.{numbers, cellAt}
-
-abbrev pub one64 : Float
-one64 = fin false 1 (pos 0)
+use Rattle.lists.specs.Sums.{one64}
 
 abbrev pub minusOne64 : Float
 minusOne64 = fin true 1 (pos 0)

@@ -1,4 +1,3 @@
 -- Laws of what the calls for other languages give and leave.
 pub mod Grouping
-pub mod Average
 pub mod Book

@@ -1,6 +1,4 @@
--- What the calls for other languages give and leave: Grouping.antt for the grouping, Average.antt for the statistics, Book.antt for the
--- check of a book, Draws.antt for the draws of a round.
+-- What the calls for other languages give and leave: Grouping.antt for the grouping, Draws.antt for the draws of a round; those of the statistics and of the
+-- check of a book are in reports/specs.
 pub mod Grouping
-pub mod Average
-pub mod Book
 pub mod Draws

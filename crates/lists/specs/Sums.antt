@@ -1,12 +1,20 @@
 -- Sums, counts and tests over the first k places of an index function. Definitions only.
 use Prim.Native.Nat.{ℕ, zero, suc, _+_}
 use mathlib.Core.Bool.{Bool, true, false, cond, _&&_}
+use lib.Dec.{eqb}
 use lib.IntN.{pos}
-use lib.Ieee.{Float, fin, add, sub, mul, ofInt, binary64}
+use lib.Ieee.{Float, fin, add, sub, mul, lt, ofInt, binary64}
 
--- +0
+-- +0, and 1
 abbrev pub zero64 : Float
 zero64 = fin false 0 (pos 0)
+
+abbrev pub one64 : Float
+one64 = fin false 1 (pos 0)
+
+-- x where it is below b; a NaN is below nothing
+abbrev pub lesser : Float → Float → Float
+lesser x b = cond (lt x b) x b
 
 -- the double nearest a count, which is the count itself up to 2 ^ 53
 abbrev pub counted : ℕ → Float
@@ -37,3 +45,10 @@ sumIf p f n = foldIf p (λ s k. add binary64 s (f k)) zero64 n
 
 abbrev pub countIf : (ℕ → Bool) → ℕ → ℕ
 countIf p n = foldIf p (λ c k. c + 1) 0 n
+
+-- whether item i is in group l, by its label; and how many of n items are
+abbrev pub inGroup : (ℕ → ℕ) → ℕ → ℕ → Bool
+inGroup label l i = eqb (label i) l
+
+abbrev pub groupSize : (ℕ → ℕ) → ℕ → ℕ → ℕ
+groupSize label n l = countIf (inGroup label l) n

@@ -7,6 +7,7 @@ ghost use lib.ListN.{length, replicate};
 ghost use lib.Ieee.{inf};
 ghost use lib.Ieee.Scale.{finite};
 ghost use Rattle.lists.specs.Lists.{row, cells, cellAt, listed, grid, part, put, firstFrom};
+ghost use Rattle.lists.specs.Sums as sums;
 ghost use Rattle.lists.specs.Sums.{counted, sumTo};
 
 // x in each place.
@@ -104,6 +105,13 @@ pub fn first_from(limit: usize, xs: &[usize]) -> usize
         }
     }
     n
+}
+
+// x where it is below b.
+pub fn lesser(x: f64, b: f64) -> f64
+    ensures { λ r. ⌜ r ≡ sums.lesser x b ⌝ }
+{
+    if x < b { x } else { b }
 }
 
 // Room for a row of cells. Only its length is promised, so that no proof goes through 256 cells.

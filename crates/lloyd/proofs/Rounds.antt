@@ -10,9 +10,10 @@ use lib.Ieee.{Float, nan}
 use Rattle.lloyd.specs.Passes.{centroidsAt, distsOf, labelsAt, labelsOf, moved, nearest, restsAt}
 use borrow.Author.Tests.{lt-ltb, ne-eqb}
 use Rattle.nearest.specs.Nearest.{nearestTo, sameLabels}
-use Rattle.centroids.specs.Groups.{distances, groupSize, mean, member}
+use Rattle.centroids.specs.Groups.{distances, mean}
 use Rattle.columns.specs.Pair.{squared}
 use Rattle.lists.specs.Lists.{cellAt, cells, firstTo, listed, numbers}
+use Rattle.lists.specs.Sums.{groupSize, inGroup}
 use Rattle.columns.specs.Columns.{pointsAt}
 use Rattle.nearest.proofs.Steps.{nearest-same}
 use Rattle.centroids.proofs.Members.{distances-agree, mean-same, size-same}
@@ -46,7 +47,7 @@ module _ (x : ℕ → ℕ → Float) (m : ℕ) (centres : List ℕ) where
   pub kept-row : (t l : ℕ) (old labels : List ℕ) (area : List Float) → l < length centres → After x m centres t old area → Kept x area old labels m l
   unfolding labelsAt centroidsAt
   kept-row zero l old labels area h w z s =
-      absurd (z (sym (size-same old labels m l s) ∙ fold-none (member (numbers old) l) (λ n k. n + 1) 0 m (λ i q.
+      absurd (z (sym (size-same old labels m l s) ∙ fold-none (inGroup (numbers old) l) (λ n k. n + 1) 0 m (λ i q.
       rw (w .given, getD-listed (λ i. length centres) m i 0 q) (ne-eqb (length centres) l (λ e. omega arith)))))
   kept-row (suc t) l old labels area h w z s =
       w .rows l h

@@ -6,9 +6,10 @@ use native.Mathlib.Omega.{arith}
 use lib.Ieee.{Float, nan}
 use Rattle.lloyd.specs.Passes.{centroidsAt, distsOf, labelsAt, labelsOf, lloydEnded, lloydLabels, moved, nearest, passes, restsAt, taken, takes}
 use lib.Dec.{eqb, ltb}
-use Rattle.centroids.specs.Groups.{groupSize, mean}
+use Rattle.centroids.specs.Groups.{mean}
 use Rattle.columns.specs.Pair.{squared}
 use Rattle.lists.specs.Lists.{cells, firstTo, numbers}
+use Rattle.lists.specs.Sums.{groupSize}
 use Rattle.nearest.proofs.Steps.{farthest-below, nearest-same}
 use Rattle.centroids.proofs.Members.{mean-agree, squared-agree}
 use Rattle.lists.proofs.Listed.{listed-same}

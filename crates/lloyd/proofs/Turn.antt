@@ -13,9 +13,10 @@ use Rattle.lloyd.specs.Passes.{moved, taken, takes}
 use lib.Dec.{T, eqb}
 use borrow.Author.Tests.{eq-eqb, ne-eqb}
 use Rattle.nearest.specs.Nearest.{farthestOf, farthestTo}
-use Rattle.centroids.specs.Groups.{distances, groupSize, mean, member, sameGroup}
+use Rattle.centroids.specs.Groups.{distances, mean, sameGroup}
 use Rattle.columns.specs.Pair.{squared}
 use Rattle.lists.specs.Lists.{cellAt, cells, listed, numbers}
+use Rattle.lists.specs.Sums.{groupSize, inGroup}
 use Rattle.columns.specs.Columns.{pointsAt}
 use Rattle.nearest.proofs.Steps.{farthest-below, farthest-left, farthest-same, untaken}
 use Rattle.centroids.proofs.Single.{single-mean}
@@ -59,7 +60,7 @@ module _ {area : List Float} {m : ℕ} (held : Held area m) (labels : List ℕ) 
         untaken = rw (ne-eqb (groupSize (numbers labels) m l) 0 z);
       }
 
-  pub single-step : {area′ : List Float} (j : ℕ) → ((i : ℕ) → T (fits binary64 (getD area i nan))) → groupSize (numbers labels) m l ≡ 1 → j < m → member (numbers labels) l j ≡ true
+  pub single-step : {area′ : List Float} (j : ℕ) → ((i : ℕ) → T (fits binary64 (getD area i nan))) → groupSize (numbers labels) m l ≡ 1 → j < m → inGroup (numbers labels) l j ≡ true
       → area′ ≡ withRow area m l (distances (pointsAt area m) m (pointsAt area m j)) → Refreshed (pointsAt area m) labels m l dists area dists area′
   single-step j g n h q t =
       mean-step (λ z. omega arith)

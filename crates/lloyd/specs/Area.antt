@@ -9,10 +9,11 @@ use lib.Dec.{eqb}
 use lib.ListN.{length, take, set}
 use lib.Ieee.{Float, inf}
 use Rattle.lists.specs.Lists.{numbers, part, put, grid}
+use Rattle.lists.specs.Sums.{groupSize}
 use Rattle.columns.specs.Pair.{squaredAt}
 use Rattle.columns.specs.Columns.{pointsAt}
 use Rattle.nearest.specs.Nearest.{farthestOf}
-use Rattle.centroids.specs.Groups.{groupSize, sameGroup, mean, distances}
+use Rattle.centroids.specs.Groups.{sameGroup, mean, distances}
 use Rattle.lloyd.specs.declared.Ended.{Ended}
 use Rattle.lloyd.specs.Passes.{centroidsAt, labelsAt, lloydLabels, lloydEnded}
 

@@ -6,9 +6,10 @@ use mathlib.Core.List.{List}
 use lib.Dec.{eqb, ltb}
 use lib.Ieee.{Float}
 use Rattle.lists.specs.Lists.{listed, cells, numbers, firstTo}
+use Rattle.lists.specs.Sums.{groupSize}
 use Rattle.nearest.specs.declared.Best.{Best}
 use Rattle.nearest.specs.Nearest.{nearestTo, farthestTo, sameLabels}
-use Rattle.centroids.specs.Groups.{groupSize, mean}
+use Rattle.centroids.specs.Groups.{mean}
 use Rattle.columns.specs.Pair.{squared}
 use Rattle.lloyd.specs.declared.Ended.{Ended}
 use Rattle.lloyd.specs.declared.Ended.the-variants.{Rest, Cut}

@@ -8,9 +8,10 @@ ghost use mathlib.Core.Bool.{true, not, _&&_};
 ghost use lib.Dec.{eqb};
 ghost use lib.Ieee.{inf};
 ghost use Rattle.lists.specs.Lists.{listed, cells, numbers};
+ghost use Rattle.lists.specs.Sums.{groupSize};
 ghost use Rattle.columns.specs.Columns.{pointsAt};
 ghost use Rattle.nearest.specs.Nearest.{nearestTo, farthestOf};
-ghost use Rattle.centroids.specs.Groups.{groupSize, meanOver, distances};
+ghost use Rattle.centroids.specs.Groups.{meanOver, distances};
 ghost use Rattle.lloyd.specs.Passes.{moved};
 ghost use Rattle.lloyd.specs.Area.{Held, Centres, tableRow, withRow, Table, Kept, Refreshed, After, Clustered};
 

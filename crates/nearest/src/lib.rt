@@ -14,13 +14,6 @@ pub struct Best {
     pub at: usize,
 }
 
-// x where it is below b.
-fn lesser_of(x: f64, b: f64) -> f64
-    ensures { λ r. ⌜ r ≡ cond (lt x b) x b ⌝ }
-{
-    if x < b { x } else { b }
-}
-
 // l where x is below b.
 fn label_of(x: f64, b: f64, l: usize, other: usize) -> usize
     ensures { λ r. ⌜ r ≡ cond (lt x b) l other ⌝ }
@@ -39,7 +32,7 @@ fn absorb(row: &[f64], l: usize, dists: &mut [f64], labels: &mut [usize])
         let x = row[i];
         let b = dists[i];
         labels[i] = label_of(x, b, l, labels[i]);
-        dists[i] = lesser_of(x, b);
+        dists[i] = lists::lesser(x, b);
     }
 }
 

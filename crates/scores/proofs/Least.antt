@@ -9,9 +9,9 @@ use native.Mathlib.Omega.{arith}
 use borrow.Author.Tests.{eq-eqb, ne-eqb}
 use lib.Dec.{T, eqb}
 use lib.Ieee.{Float, fin, inf, nan, isNan, ofInt, add, div, lt, binary64}
-use Rattle.lists.specs.Sums.{zero64, counted, foldIf}
+use Rattle.lists.specs.Sums.{zero64, counted, foldIf, lesser}
 use Rattle.lists.proofs.Sums.{fold-same}
-use Rattle.scores.specs.Scores.{member, groupSum, groupCount, least, lesser, scoreOf, scoreFrom, silhouette}
+use Rattle.scores.specs.Scores.{member, groupSum, groupCount, least, scoreOf, scoreFrom, silhouette}
 use Rattle.lists.proofs.Tests.{or-true}
 
 module _ (s : ℕ → Float) (c : ℕ → ℕ) (own : ℕ) where

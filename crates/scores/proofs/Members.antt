@@ -13,12 +13,12 @@ use lib.Dec.{eqb}
 use lib.ListN.{length, set, replicate}
 use lib.Ieee.{Float, nan, add, binary64}
 use Rattle.lists.specs.Lists.{listed, cells, numbers, row}
-use Rattle.lists.specs.Sums.{zero64, foldIf, sumIf, countIf}
+use Rattle.lists.specs.Sums.{zero64, foldIf, sumIf, countIf, groupSize}
 use Rattle.lists.proofs.Listed.{listed-same, listed-set, listed-const, listed-length, getD-listed, length-listed}
 use Rattle.lists.proofs.Sums.{fold-in, fold-out, fold-same}
 use Rattle.lists.proofs.Grid.{row-cell}
 use Rattle.scores.specs.Scores.{member}
-use Rattle.scores.specs.Groups.{distance, groupSize}
+use Rattle.scores.specs.Groups.{distance}
 use Rattle.lists.proofs.Tests.{and-false, and-true}
 
 module _ (label : ℕ → ℕ) where

@@ -11,11 +11,11 @@ use lib.Dec.{eqb, ltb}
 use lib.ListN.{length, replicate}
 use lib.Ieee.{Float, nan, inf, div, binary64}
 use Rattle.lists.specs.Lists.{listed, cells, numbers}
-use Rattle.lists.specs.Sums.{zero64, counted, countIf}
+use Rattle.lists.specs.Sums.{zero64, counted, countIf, groupSize, lesser}
 use Rattle.lists.proofs.Listed.{listed-same, listed-const, listed-length, getD-listed, length-listed}
 use Rattle.lists.proofs.Sums.{fold-none}
-use Rattle.scores.specs.Scores.{member, groupSum, groupCount, lesser, least, scoreOf, scoreFrom, silhouette}
-use Rattle.scores.specs.Groups.{distance, groupSize, atMembers, markOf, ownMean, loneBelow, leastBelow, Midway, scoresAcross}
+use Rattle.scores.specs.Scores.{member, groupSum, groupCount, least, scoreOf, scoreFrom, silhouette}
+use Rattle.scores.specs.Groups.{distance, atMembers, markOf, ownMean, loneBelow, leastBelow, Midway, scoresAcross}
 use Rattle.scores.proofs.Members.{size-in, size-out}
 use Rattle.scores.proofs.Least.{least-own, least-none, least-more, least-beyond, least-number, nan-over, lesser-nan, low-over, lesser-low, low-lesser, score-low}
 

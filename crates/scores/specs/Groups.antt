@@ -8,16 +8,12 @@ use lib.Dec.{eqb, ltb}
 use lib.ListN.{length}
 use lib.Ieee.{Float, nan, inf, div, binary64}
 use Rattle.lists.specs.Lists.{listed, cells, numbers, cellAt}
-use Rattle.lists.specs.Sums.{counted, countIf}
+use Rattle.lists.specs.Sums.{counted}
 use Rattle.scores.specs.Scores.{groupSum, groupCount, least, silhouette}
 
 -- the distance of item i to item j
 abbrev pub distance : List Float → ℕ → ℕ → ℕ → Float
 distance across m i j = cellAt across m j i
-
--- how many of n items are in group l
-abbrev pub groupSize : (ℕ → ℕ) → ℕ → ℕ → ℕ
-groupSize label n l = countIf (λ j. eqb (label j) l) n
 
 -- cell i of a list whose cells were `old`, with v in place of those of the members of l
 abbrev pub atMembers : (ℕ → ℕ) → ℕ → (ℕ → Float) → (ℕ → Float) → ℕ → Float

@@ -4,7 +4,7 @@ use mathlib.Core.Bool.{Bool, false, cond, not, _&&_, _||_}
 use lib.Dec.{eqb}
 use lib.Ieee.{Float, inf, sub, div, lt, eq, binary64}
 use lib.Ieee.Scale.{finite}
-use Rattle.lists.specs.Sums.{zero64, counted, sumIf, countIf}
+use Rattle.lists.specs.Sums.{zero64, counted, lesser, sumIf, countIf}
 
 -- item j is in group l, and is not i
 abbrev pub member : (ℕ → ℕ) → ℕ → ℕ → ℕ → Bool
@@ -16,10 +16,6 @@ groupSum d label n i l = sumIf (member label i l) d n
 
 abbrev pub groupCount : (ℕ → ℕ) → ℕ → ℕ → ℕ → ℕ
 groupCount label n i l = countIf (member label i l) n
-
--- x where it is below b; a NaN is below nothing
-abbrev pub lesser : Float → Float → Float
-lesser x b = cond (lt x b) x b
 
 -- b: the least mean distance, over the groups below m that are not `own` and have a member; s and c are the groups' sums and counts
 unfoldable pub least : (ℕ → Float) → (ℕ → ℕ) → ℕ → ℕ → Float

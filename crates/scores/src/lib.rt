@@ -5,9 +5,9 @@ ghost use Prim.Native.Nat.{ℕ, _<_, _≤_, _+_, _-_};
 ghost use lib.ListN.{length, set};
 ghost use lib.Ieee.{binary64, add, div, eq, lt};
 ghost use Rattle.lists.specs.Lists.{listed, cells, numbers};
-ghost use Rattle.lists.specs.Sums.{zero64, counted};
+ghost use Rattle.lists.specs.Sums.{zero64, counted, lesser, groupSize};
 ghost use Rattle.scores.specs.Scores as scoring;
-ghost use Rattle.scores.specs.Groups.{distance, groupSize, atMembers, markOf, Midway, Shape, scoresAcross};
+ghost use Rattle.scores.specs.Groups.{distance, atMembers, markOf, Midway, Shape, scoresAcross};
 
 // A NaN, or -infinity for a group of one.
 fn mark_of(count: usize) -> f64
@@ -17,13 +17,6 @@ fn mark_of(count: usize) -> f64
         return -1.0 / 0.0;
     }
     0.0 / 0.0
-}
-
-// x where it is below b.
-fn lesser(x: f64, b: f64) -> f64
-    ensures { λ r. ⌜ r ≡ scoring.lesser x b ⌝ }
-{
-    if x < b { x } else { b }
 }
 
 fn both_zero(a: f64, b: f64) -> bool
@@ -107,12 +100,12 @@ fn take_means(labels: &[usize], l: usize, count: usize, sums: &mut [f64], own: &
 // The mean of each sum where it is below what stands in its place.
 fn keep_least(sums: &[f64], count: usize, least: &mut [f64])
     requires { ⌜ length (now sums) ≡ length (now least) ⌝ }
-    ensures { λ _. ⌜ now (least .exit) ≡ listed (λ i. scoring.lesser (div binary64 (cells (now (sums .entry)) i) (counted count)) (cells (now (least .entry)) i)) (length (now (least .entry))) ⌝ }
+    ensures { λ _. ⌜ now (least .exit) ≡ listed (λ i. lesser (div binary64 (cells (now (sums .entry)) i) (counted count)) (cells (now (least .entry)) i)) (length (now (least .entry))) ⌝ }
 {
     let c = lists::count_as_f64(count);
     let n = sums.len();
     for i in 0..n {
-        least[i] = lesser(sums[i] / c, least[i]);
+        least[i] = lists::lesser(sums[i] / c, least[i]);
     }
 }
 

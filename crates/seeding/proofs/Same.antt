@@ -11,7 +11,7 @@ use Rattle.draws.specs.Counts.{trialsOf}
 use Rattle.draws.specs.Draws.{one}
 use Rattle.draws.proofs.Counting.{trials-some}
 use Rattle.draws.proofs.Taken.{one-took, then-same}
-use Rattle.trials.specs.Trials.{lesser, with, nextOf, table}
+use Rattle.trials.specs.Trials.{lesserNumber, with, nextOf, table}
 use Rattle.trials.proofs.Centring.{next-took}
 use Rattle.trials.proofs.Agree.{next-same}
 use Rattle.seeding.specs.Seeding.{centresOf, seeding}
@@ -27,7 +27,7 @@ module _ (q q′ : ℕ → ℕ → Float) (m : ℕ) (z : 0 < m) (same : (p i : �
       (λ b rest. centresOf q′ m t j (listed (with q′ (cells ws) (b .pick)) m) (cs ++ (b .pick ∷ [])) (at + t) rest)
       (next-took q′ m t z some ws at ds)
       (λ b rest h.
-      rw (listed-same nan (with q (cells ws) (b .pick)) (with q′ (cells ws) (b .pick)) m (λ i l. ap (lesser (cells ws i)) (same (b .pick) i (h .0) l)))
+      rw (listed-same nan (with q (cells ws) (b .pick)) (with q′ (cells ws) (b .pick)) m (λ i l. ap (lesserNumber (cells ws i)) (same (b .pick) i (h .0) l)))
       (centres-same t some j (listed (with q′ (cells ws) (b .pick)) m) (cs ++ (b .pick ∷ [])) (at + t) rest)))
 
   pub seeding-same : (k at : ℕ) (ds : List ℕ) → seeding q m k at ds ≡ seeding q′ m k at ds

@@ -17,11 +17,11 @@ pub enum Seeded {
 // The weights with the item of the row as a centre too.
 fn keep_lesser(weights: &mut [f64], squares: &[f64])
     requires { ⌜ length (now squares) ≡ length (now weights) ⌝ }
-    ensures { λ _. ⌜ now (weights .exit) ≡ listed (λ i. spec.lesser (cells (now (weights .entry)) i) (cells (now (squares .entry)) i)) (length (now (weights .entry))) ⌝ }
+    ensures { λ _. ⌜ now (weights .exit) ≡ listed (λ i. spec.lesserNumber (cells (now (weights .entry)) i) (cells (now (squares .entry)) i)) (length (now (weights .entry))) ⌝ }
 {
     let m = weights.len();
     for i in 0..m {
-        weights[i] = trials::lesser(weights[i], squares[i]);
+        weights[i] = trials::lesser_number(weights[i], squares[i]);
     }
 }
 

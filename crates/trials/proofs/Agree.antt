@@ -9,14 +9,14 @@ use Rattle.lists.specs.Sums.{sumTo}
 use Rattle.lists.proofs.Sums.{sum-same}
 use Rattle.draws.specs.Draws.{takes, one}
 use Rattle.draws.proofs.Taken.{one-took, takes-same, then-same}
-use Rattle.trials.specs.Trials.{running, lesser, with, limit, pick, tried, better, trial, against, bestOf, nextOf}
+use Rattle.trials.specs.Trials.{running, lesserNumber, with, limit, pick, tried, better, trial, against, bestOf, nextOf}
 use Rattle.trials.proofs.Picks.{pick-below}
 use Rattle.trials.proofs.Centring.{limit-some}
 
 module _ (q q′ : ℕ → ℕ → Float) (m : ℕ) (z : 0 < m) (same : (p i : ℕ) → p < m → i < m → q p i ≡ q′ p i) where
   tried-same : (w : ℕ → Float) (p : ℕ) → p < m → tried q w m p ≡ tried q′ w m p
   tried-same w p h =
-      ap (λ (x : Float). record { potential = x; pick = p }) (sum-same (with q w p) (with q′ w p) m (λ i l. ap (lesser (w i)) (same p i h l)))
+      ap (λ (x : Float). record { potential = x; pick = p }) (sum-same (with q w p) (with q′ w p) m (λ i l. ap (lesserNumber (w i)) (same p i h l)))
 
   trial-same : (w : ℕ → Float) (total : Float) (d : ℕ) → d < limit total m → trial q w total m d ≡ trial q′ w total m d
   trial-same w total d l = tried-same w (pick w total m d) (pick-below (running w) total m d z l)

@@ -10,7 +10,7 @@ use borrow.Author.Tests.{lt-ltb, le-ltb, ltb-true}
 use lib.Dec.{ltb}
 use lib.ListN.{length}
 use lib.Ieee.{Float, nan, inf, fin, lt, ne, isNan, add, mul, binary64}
-use Rattle.lists.specs.Sums.{zero64, sumTo}
+use Rattle.lists.specs.Sums.{zero64, lesser, sumTo}
 use Rattle.lists.specs.Lists.{cells, firstTo}
 use Rattle.lists.proofs.First.{first-found, first-same}
 use Rattle.lists.proofs.Listed.{length-listed, getD-listed}
@@ -18,7 +18,7 @@ use Rattle.draws.specs.Draws.{shares, share}
 use Rattle.lists.proofs.Tests.{impossible}
 use Rattle.lists.proofs.Floats.{ne-self}
 use Rattle.lists.proofs.Sums.{sum-same}
-use Rattle.trials.specs.Trials.{running, firstOver, limit, pickBy, pick, least, lesser, Summed}
+use Rattle.trials.specs.Trials.{running, firstOver, limit, pickBy, pick, lesserNumber, Summed}
 
 module _ (f : ℕ → Float) (x : Float) where
   -- f exceeds x at place i
@@ -86,11 +86,11 @@ terms-numbers w (suc m) h i l =
     let v = added-numbers (sumTo w m) (w m) h in
     ⊎-elim (λ q. rw q (v .1)) (λ q. terms-numbers w m (v .0) i q) (eq-or-lt-of-le {n = i} {m = m} (omega arith))
 
-lesser-number : (a b : Float) → isNan a ≡ false → least a b ≡ lesser a b
+lesser-number : (a b : Float) → isNan a ≡ false → lesser b a ≡ lesserNumber a b
 lesser-number a b h = rw h
 
 -- a potential where the total of the weights is a number
-pub least-sum : (w q : ℕ → Float) (m : ℕ) {total x : Float} → total ≡ sumTo w m → ne total total ≡ false → x ≡ sumTo (λ i. least (w i) (q i)) m → x ≡ sumTo (λ i. lesser (w i) (q i)) m
+pub least-sum : (w q : ℕ → Float) (m : ℕ) {total x : Float} → total ≡ sumTo w m → ne total total ≡ false → x ≡ sumTo (λ i. lesser (q i) (w i)) m → x ≡ sumTo (λ i. lesserNumber (w i) (q i)) m
 least-sum w q m {total} e h s =
     let n : isNan (sumTo w m) ≡ false = ap isNan (sym e) ∙ sym (ne-self total) ∙ h in
-    s ∙ sum-same (λ i. least (w i) (q i)) (λ i. lesser (w i) (q i)) m (λ i l. lesser-number (w i) (q i) (terms-numbers w m n i l))
+    s ∙ sum-same (λ i. lesser (q i) (w i)) (λ i. lesserNumber (w i) (q i)) m (λ i l. lesser-number (w i) (q i) (terms-numbers w m n i l))

@@ -14,17 +14,13 @@ use Rattle.trials.specs.declared.Trial.{Trial}
 use Rattle.trials.specs.declared.Tried.{Tried}
 use Rattle.trials.specs.declared.Tried.the-variants.{Best, Stopped}
 
--- b where it is below a
-abbrev pub least : Float → Float → Float
-least a b = cond (lt b a) b a
-
 -- the lesser of two; a NaN gives way to a number
-abbrev pub lesser : Float → Float → Float
-lesser a b = cond (lt b a) b (cond (isNan a) b a)
+abbrev pub lesserNumber : Float → Float → Float
+lesserNumber a b = cond (lt b a) b (cond (isNan a) b a)
 
 -- the weights with p as a centre too
 abbrev pub with : (ℕ → ℕ → Float) → (ℕ → Float) → ℕ → ℕ → Float
-with q w p i = lesser (w i) (q p i)
+with q w p i = lesserNumber (w i) (q p i)
 
 -- the running weight of item i, the weights summed up to it
 abbrev pub running : (ℕ → Float) → ℕ → Float

@@ -3,7 +3,7 @@ ghost use mathlib.Core.Path.{_≡_};
 ghost use Prim.Native.Nat.{_<_, _≤_, _+_, _-_};
 ghost use lib.ListN.{length, drop};
 ghost use Rattle.lists.specs.Lists.{cells};
-ghost use Rattle.lists.specs.Sums.{sumTo};
+ghost use Rattle.lists.specs.Sums.{lesser, sumTo};
 ghost use Rattle.draws.specs.Draws.{takes};
 ghost use Rattle.trials.specs.Trials as spec;
 ghost use Rattle.trials.specs.Trials.{table, nextOf, triedOf, Weighed, Summed};
@@ -20,16 +20,9 @@ pub enum Tried {
     Stopped(draws::Stop),
 }
 
-// b where it is below a.
-fn least(a: f64, b: f64) -> f64
-    ensures { λ r. ⌜ r ≡ spec.least a b ⌝ }
-{
-    if b < a { b } else { a }
-}
-
 // The lesser of two, a NaN giving way.
-pub fn lesser(a: f64, b: f64) -> f64
-    ensures { λ r. ⌜ r ≡ spec.lesser a b ⌝ }
+pub fn lesser_number(a: f64, b: f64) -> f64
+    ensures { λ r. ⌜ r ≡ spec.lesserNumber a b ⌝ }
 {
     if b < a {
         return b;
@@ -92,12 +85,12 @@ fn pick(sums: &[f64], total: f64, d: u64) -> usize
 // The total of the weights with the item of the row as a centre too.
 fn potential(weights: &[f64], squares: &[f64]) -> f64
     requires { ⌜ length (now squares) ≡ length (now weights) ⌝ }
-    ensures { λ r. ⌜ r ≡ sumTo (λ i. spec.lesser (cells (now (weights .entry)) i) (cells (now (squares .entry)) i)) (length (now (weights .entry))) ⌝ }
+    ensures { λ r. ⌜ r ≡ sumTo (λ i. spec.lesserNumber (cells (now (weights .entry)) i) (cells (now (squares .entry)) i)) (length (now (weights .entry))) ⌝ }
 {
     let m = weights.len();
     let mut sum = 0.0;
     for i in 0..m {
-        sum = sum + lesser(weights[i], squares[i]);
+        sum = sum + lesser_number(weights[i], squares[i]);
     }
     sum
 }
@@ -111,16 +104,16 @@ struct Potentials {
 // Two potentials where no weight is a NaN, side by side: an addition waits only for the one before it in its own sum.
 fn two_least(weights: &[f64], a: &[f64], b: &[f64]) -> Potentials
     requires { ⌜ (length (now a) ≡ length (now weights)) × (length (now b) ≡ length (now weights)) ⌝ }
-    ensures { λ r. ⌜ (r .first ≡ sumTo (λ i. spec.least (cells (now (weights .entry)) i) (cells (now (a .entry)) i)) (length (now (weights .entry))))
-        × (r .second ≡ sumTo (λ i. spec.least (cells (now (weights .entry)) i) (cells (now (b .entry)) i)) (length (now (weights .entry)))) ⌝ }
+    ensures { λ r. ⌜ (r .first ≡ sumTo (λ i. lesser (cells (now (a .entry)) i) (cells (now (weights .entry)) i)) (length (now (weights .entry))))
+        × (r .second ≡ sumTo (λ i. lesser (cells (now (b .entry)) i) (cells (now (weights .entry)) i)) (length (now (weights .entry)))) ⌝ }
 {
     let m = weights.len();
     let mut first = 0.0;
     let mut second = 0.0;
     for i in 0..m {
         let w = weights[i];
-        first = first + least(w, a[i]);
-        second = second + least(w, b[i]);
+        first = first + lists::lesser(a[i], w);
+        second = second + lists::lesser(b[i], w);
     }
     Potentials { first, second }
 }
@@ -128,8 +121,8 @@ fn two_least(weights: &[f64], a: &[f64], b: &[f64]) -> Potentials
 // Two potentials, by the total of the weights: where it is a number, no weight is a NaN.
 fn two_potentials(weights: &[f64], total: f64, a: &[f64], b: &[f64]) -> Potentials
     requires { ⌜ (length (now a) ≡ length (now weights)) × (length (now b) ≡ length (now weights)) × (total ≡ sumTo (cells (now weights)) (length (now weights))) ⌝ }
-    ensures { λ r. ⌜ (r .first ≡ sumTo (λ i. spec.lesser (cells (now (weights .entry)) i) (cells (now (a .entry)) i)) (length (now (weights .entry))))
-        × (r .second ≡ sumTo (λ i. spec.lesser (cells (now (weights .entry)) i) (cells (now (b .entry)) i)) (length (now (weights .entry)))) ⌝ }
+    ensures { λ r. ⌜ (r .first ≡ sumTo (λ i. spec.lesserNumber (cells (now (weights .entry)) i) (cells (now (a .entry)) i)) (length (now (weights .entry))))
+        × (r .second ≡ sumTo (λ i. spec.lesserNumber (cells (now (weights .entry)) i) (cells (now (b .entry)) i)) (length (now (weights .entry)))) ⌝ }
 {
     if total != total {
         return Potentials {

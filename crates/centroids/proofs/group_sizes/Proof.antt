@@ -3,8 +3,7 @@ use mathlib.Core.Path.{_∙_, _≡_, ap, refl, sym}
 use mathlib.Core.List.{List}
 use native.Mathlib.Omega.{arith}
 use lib.ListN.{length, length-set}
-use Rattle.centroids.specs.Groups.{groupSize, member}
-use Rattle.lists.specs.Sums.{foldIf}
+use Rattle.lists.specs.Sums.{foldIf, groupSize, inGroup}
 use Rattle.lists.specs.Lists.{listed, numbers}
 use Rattle.lists.proofs.Sums.{count-le}
 use Rattle.lists.proofs.Listed.{getD-listed, listed-const}
@@ -54,7 +53,7 @@ add-sizes c =
     let f = numbers (c .before .before .before .before .before .before .before .before .before .before .before .args .labels .now) in
     let l = f (c .before .before .before .before .loop .i) in
     let e : numbers (c .before .before .before .before .loop .sizes) l ≡ groupSize f (c .before .before .before .before .loop .i) l = ap (λ (x : List ℕ). numbers x l) (h .4) ∙ getD-listed (groupSize f (c .before .before .before .before .loop .i)) _ l 0 (omega (arith, c .before .if1 .left)) in
-    omega (arith, e, count-le (member f l) (c .before .before .before .before .loop .i), h .0, h .1)
+    omega (arith, e, count-le (inGroup f l) (c .before .before .before .before .loop .i), h .0, h .1)
 
 mul-sizes-2 : tie.Need-mul-sizes-2 Inv-loop μ-loop
 mul-sizes-2 c = omega (arith, c .before .before .before .before .loop .inv .3, c .before .if1 .left)

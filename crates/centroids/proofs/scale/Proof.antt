@@ -5,8 +5,8 @@ use lib.ListN.{length, length-set}
 use lib.Ieee.{binary64, div, mul, nan, ofBits}
 use borrow.Author.Needs.{needs}
 use Rattle.lists.specs.Lists.{cells}
+use Rattle.lists.specs.Sums.{one64}
 use Rattle.lists.proofs.Listed.{writes, writes-done, writes-next, writes-one}
-use Rattle.centroids.specs.Groups.{one64}
 use Rattle.centroids.proofs.scale.Statement.{statement}
 use Rattle.centroids.proofs.scale.Tie as tie
 

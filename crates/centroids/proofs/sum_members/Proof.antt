@@ -5,11 +5,10 @@ use lib.ListN.{length}
 use lib.Ieee.{ofBits}
 use borrow.Author.Tests.{eq-eqb, ne-eqb}
 use borrow.Author.Needs.{needs}
-use Rattle.lists.specs.Sums.{sumIf}
+use Rattle.lists.specs.Sums.{sumIf, inGroup}
 use Rattle.lists.specs.Lists.{cellAt, listed, numbers}
 use Rattle.lists.proofs.Listed.{listed-length}
 use Rattle.lists.proofs.Rows.{row-length}
-use Rattle.centroids.specs.Groups.{member}
 use Rattle.centroids.proofs.Means.{members-in, members-none, members-out}
 use Rattle.centroids.proofs.sum_members.Statement.{statement}
 use Rattle.centroids.proofs.sum_members.Tie as tie
@@ -17,7 +16,7 @@ use Rattle.centroids.proofs.sum_members.Tie as tie
 abbrev Inv-loop : tie.InvT-loop
 Inv-loop points labels l out₀ m i₀ out i =
     (m ≡ length labels) × (i ≤ m) × (length out ≡ m)
-    × (out ≡ listed (λ j. sumIf (member (numbers labels) l) (λ k. cellAt points m k j) i) m)
+    × (out ≡ listed (λ j. sumIf (inGroup (numbers labels) l) (λ k. cellAt points m k j) i) m)
 
 abbrev μ-loop : tie.MeasureT-loop
 μ-loop points labels l out₀ m i₀ out i = m - i
@@ -29,7 +28,7 @@ loop-holds : tie.Need-loop-holds Inv-loop μ-loop
 unfolding ofBits
 loop-holds c =
     let m = length (c .before .before .before .before .before .before .before .args .labels .now) in
-    let e = members-none (member (numbers (c .before .before .before .before .before .before .before .args .labels .now)) (c .before .before .before .before .before .before .before .args .l)) (cellAt (c .before .before .before .before .before .before .before .args .points .now) m) m (c .before .before .fill .ensures) (c .before .before .before .before .before .before .before .pre .2) in
+    let e = members-none (inGroup (numbers (c .before .before .before .before .before .before .before .args .labels .now)) (c .before .before .before .before .before .before .before .args .l)) (cellAt (c .before .before .before .before .before .before .before .args .points .now) m) m (c .before .before .fill .ensures) (c .before .before .before .before .before .before .before .pre .2) in
     (refl, omega arith, listed-length _ _ e, e)
 
 mul-if1 : tie.Need-mul-if1 Inv-loop μ-loop
@@ -63,7 +62,7 @@ loop-again-2 : tie.Need-loop-again-2 Inv-loop μ-loop
 loop-again-2 c =
     let m = length (c .before .before .before .before .before .before .before .before .before .before .before .before .before .before .before .before .args .labels .now) in
     let e = (rw (ap length (c .before .before .before .before .row-of .ensures) ∙ row-length (c .before .before .before .before .before .before .before .before .before .before .before .before .before .before .before .before .args .points .now) (c .before .before .before .before .before .before .before .before .loop .i) m (c .before .before .before .before .before .before .before .before .before .before .before .before .before .before .before .before .pre .1) (c .before .before .before .before .before .before .before .loop-test .taken)) at (c .before .before .add-row .ensures))
-    ∙ members-in (member (numbers (c .before .before .before .before .before .before .before .before .before .before .before .before .before .before .before .before .args .labels .now)) (c .before .before .before .before .before .before .before .before .before .before .before .before .before .before .before .before .args .l)) (c .before .before .before .before .before .before .before .before .before .before .before .before .before .before .before .before .args .points .now) (c .before .before .before .before .before .before .before .before .loop .i) m (c .before .before .before .before .before .before .before .before .loop .inv .3) (c .before .before .before .before .row-of .ensures) (eq-eqb _ _ (c .before .before .before .before .before .if1 .left)) in
+    ∙ members-in (inGroup (numbers (c .before .before .before .before .before .before .before .before .before .before .before .before .before .before .before .before .args .labels .now)) (c .before .before .before .before .before .before .before .before .before .before .before .before .before .before .before .before .args .l)) (c .before .before .before .before .before .before .before .before .before .before .before .before .before .before .before .before .args .points .now) (c .before .before .before .before .before .before .before .before .loop .i) m (c .before .before .before .before .before .before .before .before .loop .inv .3) (c .before .before .before .before .row-of .ensures) (eq-eqb _ _ (c .before .before .before .before .before .if1 .left)) in
     (refl, omega (arith, c .before .before .before .before .before .before .before .loop-test .taken), listed-length _ _ e, e)
 
 same-length : tie.Need-same-length Inv-loop μ-loop

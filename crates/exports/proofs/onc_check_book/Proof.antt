@@ -1,5 +1,5 @@
 use borrow.Author.Needs.{needs}
-use Rattle.exports.proofs.Book.{book-not-told, book-telling, two-places}
+use Rattle.exports.proofs.Book.{book-refused-as, book-reported, two-places}
 use Rattle.exports.proofs.onc_check_book.Statement.{statement}
 use Rattle.exports.proofs.onc_check_book.Tie as tie
 
@@ -7,7 +7,7 @@ book-refused-requires : tie.Need-book-refused-requires
 book-refused-requires c κs = tt
 
 returns : tie.Need-returns
-returns c = book-not-told _ _ _ (c .before .book-refused .ensures) (c .if1 .taken)
+returns c = book-refused-as _ _ _ (c .before .book-refused .ensures) (c .if1 .taken)
 
 check-book-requires : tie.Need-check-book-requires
 check-book-requires c κs = tt
@@ -18,14 +18,14 @@ number-of-requires c κs = tt
 place-of-requires : tie.Need-place-of-requires
 place-of-requires c κs = tt
 
-tell-two-requires : tie.Need-tell-two-requires
-tell-two-requires c κs = two-places _ _ _ _ (c .before .before .before .before .before .book-refused .ensures) (c .before .before .before .before .if1 .left)
+report-two-requires : tie.Need-report-two-requires
+report-two-requires c κs = two-places _ _ _ _ (c .before .before .before .before .before .book-refused .ensures) (c .before .before .before .before .if1 .left)
 
 same-length : tie.Need-same-length
 same-length c = search needs
 
 returns-2 : tie.Need-returns-2
-returns-2 c = book-telling _ _ (c .before .before .before .before .before .before .before .before .before .before .args .answer .now) (c .before .before .before .before .before .before .check-book .result) (two-places _ _ _ _ (c .before .before .before .before .before .before .before .before .book-refused .ensures) (c .before .before .before .before .before .before .before .if1 .left)) (c .before .before .before .before .before .before .check-book .ensures) (c .before .before .before .before .before .number-of .ensures) (c .before .before .before .before .place-of .ensures) (c .before .before .tell-two .ensures .0) (c .before .before .tell-two .ensures .1)
+returns-2 c = book-reported _ _ (c .before .before .before .before .before .before .before .before .before .before .args .answer .now) (c .before .before .before .before .before .before .check-book .result) (two-places _ _ _ _ (c .before .before .before .before .before .before .before .before .book-refused .ensures) (c .before .before .before .before .before .before .before .if1 .left)) (c .before .before .before .before .before .before .check-book .ensures) (c .before .before .before .before .before .number-of .ensures) (c .before .before .before .before .place-of .ensures) (c .before .before .report-two .ensures .0) (c .before .before .report-two .ensures .1)
 
 pub onc-check-book-spec : {M : Type 1} → statement M
 onc-check-book-spec =
@@ -36,6 +36,6 @@ onc-check-book-spec =
     check-book-requires
     number-of-requires
     place-of-requires
-    tell-two-requires
+    report-two-requires
     same-length
     returns-2)

@@ -1,5 +1,5 @@
 use borrow.Author.Needs.{needs}
-use Rattle.exports.proofs.Grouping.{four-places, grouping-not-told, grouping-telling}
+use Rattle.exports.proofs.Grouping.{four-places, grouping-refused-as, grouping-reported}
 use Rattle.exports.proofs.onc_get_onc_clusters_with_draws.Statement.{statement}
 use Rattle.exports.proofs.onc_get_onc_clusters_with_draws.Tie as tie
 
@@ -7,13 +7,13 @@ grouping-refused-requires : tie.Need-grouping-refused-requires
 grouping-refused-requires c κs = search needs
 
 returns : tie.Need-returns
-returns c = grouping-not-told _ _ _ _ (c .before .grouping-refused .ensures) (c .if1 .taken)
+returns c = grouping-refused-as _ _ _ _ (c .before .grouping-refused .ensures) (c .if1 .taken)
 
 get-onc-clusters-with-draws-requires : tie.Need-get-onc-clusters-with-draws-requires
 get-onc-clusters-with-draws-requires c κs = search needs
 
-tell-grouping-requires : tie.Need-tell-grouping-requires
-tell-grouping-requires c κs = four-places _ _ _ _ _ (c .before .before .before .before .before .before .before .before .before .before .before .before .before .before .before .before .before .before .before .before .before .grouping-refused .ensures) (c .before .before .before .before .before .before .before .before .before .before .before .before .before .before .before .before .before .before .before .before .if1 .left)
+report-grouping-requires : tie.Need-report-grouping-requires
+report-grouping-requires c κs = four-places _ _ _ _ _ (c .before .before .before .before .before .before .before .before .before .before .before .before .before .before .before .before .before .before .before .before .before .grouping-refused .ensures) (c .before .before .before .before .before .before .before .before .before .before .before .before .before .before .before .before .before .before .before .before .if1 .left)
 
 same-length : tie.Need-same-length
 same-length c = search needs
@@ -38,8 +38,8 @@ same-length-7 c = search needs
 
 returns-2 : tie.Need-returns-2
 returns-2 c =
-    grouping-telling _ _ (c .before .before .before .before .before .before .before .before .before .before .before .before .before .before .before .before .before .before .before .before .before .before .before .before .before .before .before .before .before .before .before .before .before .before .args .answer .now) _ (c .before .before .before .before .before .before .before .before .before .before .before .before .before .before .before .before .get-onc-clusters-with-draws .result) (four-places _ _ _ _ _ (c .before .before .before .before .before .before .before .before .before .before .before .before .before .before .before .before .before .before .before .before .before .before .before .before .grouping-refused .ensures) (c .before .before .before .before .before .before .before .before .before .before .before .before .before .before .before .before .before .before .before .before .before .before .before .if1 .left))
-    (c .before .before .before .before .before .before .before .before .before .before .before .before .before .before .before .before .get-onc-clusters-with-draws .ensures) (c .before .before .tell-grouping .ensures .0) (c .before .before .tell-grouping .ensures .1)
+    grouping-reported _ _ (c .before .before .before .before .before .before .before .before .before .before .before .before .before .before .before .before .before .before .before .before .before .before .before .before .before .before .before .before .before .before .before .before .before .before .args .answer .now) _ (c .before .before .before .before .before .before .before .before .before .before .before .before .before .before .before .before .get-onc-clusters-with-draws .result) (four-places _ _ _ _ _ (c .before .before .before .before .before .before .before .before .before .before .before .before .before .before .before .before .before .before .before .before .before .before .before .before .grouping-refused .ensures) (c .before .before .before .before .before .before .before .before .before .before .before .before .before .before .before .before .before .before .before .before .before .before .before .if1 .left))
+    (c .before .before .before .before .before .before .before .before .before .before .before .before .before .before .before .before .get-onc-clusters-with-draws .ensures) (c .before .before .report-grouping .ensures .0) (c .before .before .report-grouping .ensures .1)
 
 pub onc-get-onc-clusters-with-draws-spec : {M : Type 1} → statement M
 onc-get-onc-clusters-with-draws-spec =
@@ -48,7 +48,7 @@ onc-get-onc-clusters-with-draws-spec =
     grouping-refused-requires
     returns
     get-onc-clusters-with-draws-requires
-    tell-grouping-requires
+    report-grouping-requires
     same-length
     same-length-2
     same-length-3

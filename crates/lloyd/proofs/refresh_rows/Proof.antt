@@ -3,9 +3,10 @@ use mathlib.Core.Path.{_∙_, _≡_, ap, sym}
 use mathlib.Core.List.{List}
 use native.Mathlib.Omega.{arith}
 use lib.ListN.{length}
-use Rattle.centroids.specs.Groups.{groupSize, movedMark}
+use Rattle.centroids.specs.Groups.{movedMark}
 use Rattle.lloyd.proofs.Turn.{Midway, kept-later, kept-step, midway-more, midway-none}
 use Rattle.lists.specs.Lists.{numbers}
+use Rattle.lists.specs.Sums.{groupSize}
 use Rattle.lloyd.specs.Area.{Held}
 use Rattle.lloyd.proofs.Rows.{held-kept}
 use Rattle.centroids.proofs.Tallies.{not-moved}

@@ -50,8 +50,8 @@ mul-labels c = omega arith
 slice-write-labels : tie.Need-slice-write-labels Inv-loop μ-loop
 slice-write-labels c = omega arith
 
-lesser-of-requires : tie.Need-lesser-of-requires Inv-loop μ-loop
-lesser-of-requires c κs = search needs
+lesser-requires : tie.Need-lesser-requires Inv-loop μ-loop
+lesser-requires c κs = search needs
 
 mul-dists : tie.Need-mul-dists Inv-loop μ-loop
 mul-dists c = omega arith
@@ -75,7 +75,7 @@ loop-again c =
       simp length-set (search needs),
       search needs,
       search needs,
-      writes-one _ _ _ d (c .lesser-of .ensures ∙ rw (writes-next nan _ _ _ d)),
+      writes-one _ _ _ d (c .lesser .ensures ∙ rw (writes-next nan _ _ _ d)),
       writes-one _ _ _ e (c .before .label-of .ensures ∙ rw (writes-next nan _ _ _ d, writes-next 0 _ _ _ e)),
     )
 
@@ -107,7 +107,7 @@ absorb-spec =
     label-of-requires
     mul-labels
     slice-write-labels
-    lesser-of-requires
+    lesser-requires
     mul-dists
     slice-write-dists
     add-i

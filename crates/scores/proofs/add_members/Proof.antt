@@ -7,12 +7,11 @@ use lib.Ieee.{ofBits}
 use lib.Dec.{eqb}
 use borrow.Author.Tests.{eq-eqb, ne-eqb}
 use borrow.Author.Needs.{needs}
-use Rattle.lists.specs.Sums.{foldIf, zero64}
+use Rattle.lists.specs.Sums.{foldIf, zero64, groupSize}
 use Rattle.lists.specs.Lists.{listed, numbers}
 use Rattle.lists.proofs.Sums.{count-le, fold-in, fold-out}
 use Rattle.lists.proofs.Listed.{listed-length}
 use Rattle.lists.proofs.Rows.{row-length}
-use Rattle.scores.specs.Groups.{groupSize}
 use Rattle.scores.proofs.Members.{sums-add, sums-none, sums-skip, sumsTo}
 use Rattle.scores.proofs.add_members.Statement.{statement}
 use Rattle.scores.proofs.add_members.Tie as tie

@@ -4,10 +4,9 @@ use native.Mathlib.Omega.{arith}
 use lib.ListN.{length, length-set}
 use lib.Ieee.{Float, binary64, div, nan}
 use borrow.Author.Needs.{needs}
-use Rattle.lists.specs.Sums.{counted}
+use Rattle.lists.specs.Sums.{counted, lesser}
 use Rattle.lists.specs.Lists.{cells}
 use Rattle.lists.proofs.Listed.{writes, writes-done, writes-next, writes-one}
-use Rattle.scores.specs.Scores.{lesser}
 use Rattle.scores.proofs.keep_least.Statement.{statement}
 use Rattle.scores.proofs.keep_least.Tie as tie
 

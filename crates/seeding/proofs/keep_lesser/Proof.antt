@@ -6,12 +6,12 @@ use lib.Ieee.{nan}
 use borrow.Author.Needs.{needs}
 use Rattle.lists.specs.Lists.{cells}
 use Rattle.lists.proofs.Listed.{writes, writes-done, writes-step}
-use Rattle.trials.specs.Trials.{lesser}
+use Rattle.trials.specs.Trials.{lesserNumber}
 use Rattle.seeding.proofs.keep_lesser.Statement.{statement}
 use Rattle.seeding.proofs.keep_lesser.Tie as tie
 
 abbrev Inv-loop : tie.InvT-loop
-Inv-loop weights₀ squares m i₀ weights i = (m ≡ length weights₀) × (i ≤ m) × (length weights ≡ m) × (weights ≡ writes (λ k. lesser (cells weights₀ k) (cells squares k)) i weights₀)
+Inv-loop weights₀ squares m i₀ weights i = (m ≡ length weights₀) × (i ≤ m) × (length weights ≡ m) × (weights ≡ writes (λ k. lesserNumber (cells weights₀ k) (cells squares k)) i weights₀)
 
 abbrev μ-loop : tie.MeasureT-loop
 μ-loop weights₀ squares m i₀ weights i = m - i
@@ -20,20 +20,20 @@ loop-holds : tie.Need-loop-holds Inv-loop μ-loop
 unfolding writes
 loop-holds c = (refl, omega arith, refl, refl)
 
-mul-lesser : tie.Need-mul-lesser Inv-loop μ-loop
-mul-lesser c = omega arith
+mul-lesser-number : tie.Need-mul-lesser-number Inv-loop μ-loop
+mul-lesser-number c = omega arith
 
-slice-read-lesser : tie.Need-slice-read-lesser Inv-loop μ-loop
-slice-read-lesser c = omega arith
+slice-read-lesser-number : tie.Need-slice-read-lesser-number Inv-loop μ-loop
+slice-read-lesser-number c = omega arith
 
-mul-lesser-2 : tie.Need-mul-lesser-2 Inv-loop μ-loop
-mul-lesser-2 c = omega arith
+mul-lesser-number-2 : tie.Need-mul-lesser-number-2 Inv-loop μ-loop
+mul-lesser-number-2 c = omega arith
 
-shared-slice-read-lesser : tie.Need-shared-slice-read-lesser Inv-loop μ-loop
-shared-slice-read-lesser c = omega arith
+shared-slice-read-lesser-number : tie.Need-shared-slice-read-lesser-number Inv-loop μ-loop
+shared-slice-read-lesser-number c = omega arith
 
-lesser-requires : tie.Need-lesser-requires Inv-loop μ-loop
-lesser-requires c κs = tt
+lesser-number-requires : tie.Need-lesser-number-requires Inv-loop μ-loop
+lesser-number-requires c κs = tt
 
 mul-weights : tie.Need-mul-weights Inv-loop μ-loop
 mul-weights c = omega arith
@@ -54,7 +54,7 @@ loop-again c =
       refl,
       omega arith,
       simp length-set (omega arith),
-      ap (set (l .weights) (l .i)) (c .lesser .ensures) ∙ writes-step nan (λ s k. lesser s (cells (a .squares .now) k)) (l .i) (a .weights .now) (l .inv .3),
+      ap (set (l .weights) (l .i)) (c .lesser-number .ensures) ∙ writes-step nan (λ s k. lesserNumber s (cells (a .squares .now) k)) (l .i) (a .weights .now) (l .inv .3),
     )
 
 same-length : tie.Need-same-length Inv-loop μ-loop
@@ -70,11 +70,11 @@ keep-lesser-spec =
     Inv-loop
     μ-loop
     loop-holds
-    mul-lesser
-    slice-read-lesser
-    mul-lesser-2
-    shared-slice-read-lesser
-    lesser-requires
+    mul-lesser-number
+    slice-read-lesser-number
+    mul-lesser-number-2
+    shared-slice-read-lesser-number
+    lesser-number-requires
     mul-weights
     slice-write-weights
     add-i

@@ -6,12 +6,12 @@ use lib.Ieee.{add, binary64, ofBits}
 use Rattle.lists.specs.Lists.{cells}
 use Rattle.lists.specs.Sums.{sumTo}
 use Rattle.lists.proofs.Sums.{sum-more}
-use Rattle.trials.specs.Trials.{lesser}
+use Rattle.trials.specs.Trials.{lesserNumber}
 use Rattle.trials.proofs.potential.Statement.{statement}
 use Rattle.trials.proofs.potential.Tie as tie
 
 abbrev Inv-loop : tie.InvT-loop
-Inv-loop weights squares m sum₀ i₀ sum i = (m ≡ length weights) × (i ≤ m) × (sum ≡ sumTo (λ k. lesser (cells weights k) (cells squares k)) i)
+Inv-loop weights squares m sum₀ i₀ sum i = (m ≡ length weights) × (i ≤ m) × (sum ≡ sumTo (λ k. lesserNumber (cells weights k) (cells squares k)) i)
 
 abbrev μ-loop : tie.MeasureT-loop
 μ-loop weights squares m sum₀ i₀ sum i = m - i
@@ -20,20 +20,20 @@ loop-holds : tie.Need-loop-holds Inv-loop μ-loop
 unfolding sumTo ofBits
 loop-holds c = (refl, omega arith, refl)
 
-mul-lesser : tie.Need-mul-lesser Inv-loop μ-loop
-mul-lesser c = omega arith
+mul-lesser-number : tie.Need-mul-lesser-number Inv-loop μ-loop
+mul-lesser-number c = omega arith
 
-shared-slice-read-lesser : tie.Need-shared-slice-read-lesser Inv-loop μ-loop
-shared-slice-read-lesser c = omega arith
+shared-slice-read-lesser-number : tie.Need-shared-slice-read-lesser-number Inv-loop μ-loop
+shared-slice-read-lesser-number c = omega arith
 
-mul-lesser-2 : tie.Need-mul-lesser-2 Inv-loop μ-loop
-mul-lesser-2 c = omega arith
+mul-lesser-number-2 : tie.Need-mul-lesser-number-2 Inv-loop μ-loop
+mul-lesser-number-2 c = omega arith
 
-shared-slice-read-lesser-2 : tie.Need-shared-slice-read-lesser-2 Inv-loop μ-loop
-shared-slice-read-lesser-2 c = omega arith
+shared-slice-read-lesser-number-2 : tie.Need-shared-slice-read-lesser-number-2 Inv-loop μ-loop
+shared-slice-read-lesser-number-2 c = omega arith
 
-lesser-requires : tie.Need-lesser-requires Inv-loop μ-loop
-lesser-requires c κs = tt
+lesser-number-requires : tie.Need-lesser-number-requires Inv-loop μ-loop
+lesser-number-requires c κs = tt
 
 add-i : tie.Need-add-i Inv-loop μ-loop
 add-i c = omega arith
@@ -45,7 +45,7 @@ loop-again : tie.Need-loop-again Inv-loop μ-loop
 loop-again c =
     let a = c .before .before .before .before .before .before .before .args in
     let l = c .before .before .before .before .loop in
-    (refl, omega arith, ap (add binary64 (l .sum)) (c .lesser .ensures) ∙ sum-more (λ k. lesser (cells (a .weights .now) k) (cells (a .squares .now) k)) (l .i) (l .inv .2))
+    (refl, omega arith, ap (add binary64 (l .sum)) (c .lesser-number .ensures) ∙ sum-more (λ k. lesserNumber (cells (a .weights .now) k) (cells (a .squares .now) k)) (l .i) (l .inv .2))
 
 returns : tie.Need-returns Inv-loop μ-loop
 returns c = let e : c .before .loop .i ≡ length (c .before .before .before .before .args .weights .now) = omega arith in rw e at (c .before .loop .inv .2)
@@ -57,11 +57,11 @@ potential-spec =
     Inv-loop
     μ-loop
     loop-holds
-    mul-lesser
-    shared-slice-read-lesser
-    mul-lesser-2
-    shared-slice-read-lesser-2
-    lesser-requires
+    mul-lesser-number
+    shared-slice-read-lesser-number
+    mul-lesser-number-2
+    shared-slice-read-lesser-number-2
+    lesser-number-requires
     add-i
     loop-less
     loop-again

@@ -3,15 +3,14 @@ use mathlib.Core.Path.{_∙_, _≡_, ap, refl}
 use native.Mathlib.Omega.{arith}
 use lib.ListN.{length}
 use lib.Ieee.{add, binary64, ofBits}
-use Rattle.trials.specs.Trials.{least}
-use Rattle.lists.specs.Sums.{sumTo}
+use Rattle.lists.specs.Sums.{lesser, sumTo}
 use Rattle.lists.specs.Lists.{cells}
 use Rattle.lists.proofs.Sums.{sum-more}
 use Rattle.trials.proofs.two_least.Statement.{statement}
 use Rattle.trials.proofs.two_least.Tie as tie
 
 abbrev Inv-loop : tie.InvT-loop
-Inv-loop weights a b m first₀ second₀ i₀ first second i = (m ≡ length weights) × (i ≤ m) × (first ≡ sumTo (λ k. least (cells weights k) (cells a k)) i) × (second ≡ sumTo (λ k. least (cells weights k) (cells b k)) i)
+Inv-loop weights a b m first₀ second₀ i₀ first second i = (m ≡ length weights) × (i ≤ m) × (first ≡ sumTo (λ k. lesser (cells a k) (cells weights k)) i) × (second ≡ sumTo (λ k. lesser (cells b k) (cells weights k)) i)
 
 abbrev μ-loop : tie.MeasureT-loop
 μ-loop weights a b m first₀ second₀ i₀ first second i = m - i
@@ -26,23 +25,23 @@ mul-w c = omega arith
 shared-slice-read-w : tie.Need-shared-slice-read-w Inv-loop μ-loop
 shared-slice-read-w c = omega arith
 
-mul-least : tie.Need-mul-least Inv-loop μ-loop
-mul-least c = omega arith
+mul-lesser : tie.Need-mul-lesser Inv-loop μ-loop
+mul-lesser c = omega arith
 
-shared-slice-read-least : tie.Need-shared-slice-read-least Inv-loop μ-loop
-shared-slice-read-least c = omega arith
+shared-slice-read-lesser : tie.Need-shared-slice-read-lesser Inv-loop μ-loop
+shared-slice-read-lesser c = omega arith
 
-least-requires : tie.Need-least-requires Inv-loop μ-loop
-least-requires c κs = tt
+lesser-requires : tie.Need-lesser-requires Inv-loop μ-loop
+lesser-requires c κs = tt
 
-mul-least-2 : tie.Need-mul-least-2 Inv-loop μ-loop
-mul-least-2 c = omega arith
+mul-lesser-2 : tie.Need-mul-lesser-2 Inv-loop μ-loop
+mul-lesser-2 c = omega arith
 
-shared-slice-read-least-2 : tie.Need-shared-slice-read-least-2 Inv-loop μ-loop
-shared-slice-read-least-2 c = omega arith
+shared-slice-read-lesser-2 : tie.Need-shared-slice-read-lesser-2 Inv-loop μ-loop
+shared-slice-read-lesser-2 c = omega arith
 
-least-requires-2 : tie.Need-least-requires-2 Inv-loop μ-loop
-least-requires-2 c κs = tt
+lesser-requires-2 : tie.Need-lesser-requires-2 Inv-loop μ-loop
+lesser-requires-2 c κs = tt
 
 add-i : tie.Need-add-i Inv-loop μ-loop
 add-i c = omega arith
@@ -56,8 +55,8 @@ loop-again c =
     let l = c .before .before .before .before .before .before .loop in (
       refl,
       omega arith,
-      ap (add binary64 (l .first)) (c .before .before .least .ensures) ∙ sum-more (λ k. least (cells (s .weights .now) k) (cells (s .a .now) k)) (l .i) (l .inv .2),
-      ap (add binary64 (l .second)) (c .least2 .ensures) ∙ sum-more (λ k. least (cells (s .weights .now) k) (cells (s .b .now) k)) (l .i) (l .inv .3),
+      ap (add binary64 (l .first)) (c .before .before .lesser .ensures) ∙ sum-more (λ k. lesser (cells (s .a .now) k) (cells (s .weights .now) k)) (l .i) (l .inv .2),
+      ap (add binary64 (l .second)) (c .lesser2 .ensures) ∙ sum-more (λ k. lesser (cells (s .b .now) k) (cells (s .weights .now) k)) (l .i) (l .inv .3),
     )
 
 returns : tie.Need-returns Inv-loop μ-loop
@@ -74,12 +73,12 @@ two-least-spec =
     loop-holds
     mul-w
     shared-slice-read-w
-    mul-least
-    shared-slice-read-least
-    least-requires
-    mul-least-2
-    shared-slice-read-least-2
-    least-requires-2
+    mul-lesser
+    shared-slice-read-lesser
+    lesser-requires
+    mul-lesser-2
+    shared-slice-read-lesser-2
+    lesser-requires-2
     add-i
     loop-less
     loop-again

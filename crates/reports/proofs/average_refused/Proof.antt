@@ -1,6 +1,6 @@
 use borrow.Author.Needs.{needs}
-use Rattle.exports.proofs.average_refused.Statement.{statement}
-use Rattle.exports.proofs.average_refused.Tie as tie
+use Rattle.reports.proofs.average_refused.Statement.{statement}
+use Rattle.reports.proofs.average_refused.Tie as tie
 
 enum-known-a : tie.Need-enum-known-a
 enum-known-a c = search needs

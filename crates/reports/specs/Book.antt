@@ -7,7 +7,7 @@ use lib.ListN.{length}
 use Rattle.refusals.specs.Table.{Refusal, refused, unless, refusal}
 
 -- the value, and the list after the call
-pub record BookTold : Type 0 where
+pub record BookReport : Type 0 where
   pub number : ℕ
   pub answer : List ℕ
 
@@ -17,8 +17,8 @@ bookShape rows cols cells = unless (eqb rows cols) (refused 2) (refusal cells ro
 
 -- The number and the place of `intake`, in `answer`. If that has another length than 2 it is an output list of wrong length: the call is
 -- refused by `shape`, ahead of 21, 22 and 23, and the list is as it was.
-unfoldable pub bookTold : Refusal → Refusal → List ℕ → BookTold
-bookTold shape intake answer =
+unfoldable pub bookReported : Refusal → Refusal → List ℕ → BookReport
+bookReported shape intake answer =
     cond (eqb (length answer) 2)
     (record { number = intake .number; answer = intake .number ∷ intake .place ∷ [] })
     (record { number = shape .number; answer = answer })

@@ -2,8 +2,8 @@ use mathlib.Core.Path.{_∙_, ap}
 use borrow.Author.Tests.{eq-eqb, ne-eqb}
 use borrow.Author.Needs.{needs}
 use Rattle.onc_answers.specs.Answers.{Answer}
-use Rattle.exports.proofs.grouping_refused.Statement.{statement}
-use Rattle.exports.proofs.grouping_refused.Tie as tie
+use Rattle.reports.proofs.grouping_refused.Statement.{statement}
+use Rattle.reports.proofs.grouping_refused.Tie as tie
 
 returns : tie.Need-returns
 returns c = rw (eq-eqb _ 4 (c .if1 .taken))

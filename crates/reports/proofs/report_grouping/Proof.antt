@@ -1,7 +1,7 @@
 use borrow.Author.Needs.{needs}
-use Rattle.exports.proofs.Grouping.{told-four}
-use Rattle.exports.proofs.tell_grouping.Statement.{statement}
-use Rattle.exports.proofs.tell_grouping.Tie as tie
+use Rattle.reports.proofs.Written.{four-written}
+use Rattle.reports.proofs.report_grouping.Statement.{statement}
+use Rattle.reports.proofs.report_grouping.Tie as tie
 
 number-of-requires : tie.Need-number-of-requires
 number-of-requires c κs = search needs
@@ -31,10 +31,10 @@ same-length : tie.Need-same-length
 same-length c = search needs
 
 returns : tie.Need-returns
-returns c = (c .before .before .before .number-of .ensures, told-four (c .before .before .before .before .before .args .answer .now) (c .before .before .before .before .before .pre) (c .before .before .before .number-of .ensures) (c .before .before .place-of .ensures) (c .before .groups-of .ensures) (c .read-of .ensures))
+returns c = (c .before .before .before .number-of .ensures, four-written (c .before .before .before .before .before .args .answer .now) (c .before .before .before .before .before .pre) (c .before .before .before .number-of .ensures) (c .before .before .place-of .ensures) (c .before .groups-of .ensures) (c .read-of .ensures))
 
-pub tell-grouping-spec : {M : Type 1} → statement M
-tell-grouping-spec =
+pub report-grouping-spec : {M : Type 1} → statement M
+report-grouping-spec =
     tie.close
     (tie.spec
     number-of-requires

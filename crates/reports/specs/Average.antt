@@ -9,7 +9,7 @@ use lib.Ieee.{Float}
 use Rattle.stats.specs.Average.{Averaged}
 
 -- the value, and each list after the call
-pub record AverageTold : Type 0 where
+pub record AverageReport : Type 0 where
   pub number : ℕ
   pub answer : List ℕ
   pub average : List Float
@@ -20,8 +20,8 @@ numberWithout a = cond (eqb (a .number) 0) 6 (a .number)
 
 -- The number and how many averages there are, 1 or 0, in `answer`; the average, where there is one, in `average`. If `answer` has another
 -- length than 2 or `average` than 1, that is an output list of wrong length, and every list is as it was.
-unfoldable pub averageTold : Averaged → List ℕ → List Float → AverageTold
-averageTold a answer average =
+unfoldable pub averageReported : Averaged → List ℕ → List Float → AverageReport
+averageReported a answer average =
     cond (eqb (length average) 1 && eqb (length answer) 2)
     (record { number = a .number; answer = a .number ∷ length (a .values) ∷ []; average = a .values ++ drop (length (a .values)) average })
     (record { number = numberWithout a; answer = answer; average = average })

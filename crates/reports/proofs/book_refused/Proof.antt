@@ -1,9 +1,9 @@
 use mathlib.Core.Path.{_∙_, ap}
 use borrow.Author.Tests.{eq-eqb, ne-eqb}
 use Rattle.refusals.specs.Table.{Refusal, unless}
-use Rattle.exports.specs.Book.{bookShape}
-use Rattle.exports.proofs.book_refused.Statement.{statement}
-use Rattle.exports.proofs.book_refused.Tie as tie
+use Rattle.reports.specs.Book.{bookShape}
+use Rattle.reports.proofs.book_refused.Statement.{statement}
+use Rattle.reports.proofs.book_refused.Tie as tie
 
 returns : tie.Need-returns
 returns c = rw (eq-eqb _ 2 (c .if1 .taken))

@@ -2,8 +2,8 @@ use mathlib.Core.Path.{_∙_, _≡_, sym}
 use mathlib.Core.Bool.{false, true}
 use lib.Ieee.{isNan}
 use Rattle.lists.proofs.Floats.{ne-self}
-use Rattle.trials.proofs.lesser.Statement.{statement}
-use Rattle.trials.proofs.lesser.Tie as tie
+use Rattle.trials.proofs.lesser_number.Statement.{statement}
+use Rattle.trials.proofs.lesser_number.Tie as tie
 
 returns : tie.Need-returns
 returns c = rw (c .if1 .taken)
@@ -20,5 +20,5 @@ returns-3 c =
     let h : isNan a ≡ false = sym (ne-self a) ∙ c .if2 .left in
     rw (c .before .if1 .left, h)
 
-pub lesser-spec : {M : Type 1} → statement M
-lesser-spec = tie.close (tie.spec returns returns-2 returns-3)
+pub lesser-number-spec : {M : Type 1} → statement M
+lesser-number-spec = tie.close (tie.spec returns returns-2 returns-3)

@@ -1,8 +1,8 @@
 use mathlib.Core.Path.{_≡_, refl}
 use mathlib.Core.Bool.{false, true}
 use lib.Ieee.{lt}
-use Rattle.nearest.proofs.lesser_of.Statement.{statement}
-use Rattle.nearest.proofs.lesser_of.Tie as tie
+use Rattle.lists.proofs.lesser.Statement.{statement}
+use Rattle.lists.proofs.lesser.Tie as tie
 
 returns : tie.Need-returns
 returns c =
@@ -16,5 +16,5 @@ returns-2 c =
     let h : lt (a .x) (a .b) ≡ false = c .if1 .left in
     rw h refl
 
-pub lesser-of-spec : {M : Type 1} → statement M
-lesser-of-spec = tie.close (tie.spec returns returns-2)
+pub lesser-spec : {M : Type 1} → statement M
+lesser-spec = tie.close (tie.spec returns returns-2)

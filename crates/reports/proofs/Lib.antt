@@ -1,0 +1,3 @@
+-- Laws of what the calls for other languages report.
+pub mod Average
+pub mod Written
