@@ -100,7 +100,7 @@ fn finish(
     match top {
         Top::Stopped(s) => Onc::Stopped(s),
         Top::Done(groups, read) => {
-            distance::fill_cells(book, n, order, ordered);
+            book::cells_through(book, n, order, ordered);
             Onc::Grouped {
                 groups,
                 draws: read,

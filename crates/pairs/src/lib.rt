@@ -140,6 +140,6 @@ pub fn book_pairs(book: &[f64], n: usize, rows: &[usize], area: &mut [f64])
 {
     let m = rows.len();
     let second = m * m;
-    distance::fill_distances(book, n, rows, &mut area[..second]);
+    book::distances_through(book, n, rows, &mut area[..second]);
     pairs_in(area, m);
 }

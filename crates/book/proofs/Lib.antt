@@ -1,0 +1,2 @@
+-- What the walks over `Book` share.
+pub mod Thin
