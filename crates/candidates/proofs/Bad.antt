@@ -1,45 +1,70 @@
--- A draw that ends the search is not below m, where there are draws enough.
-use Prim.Native.Nat.{ℕ, zero, suc, _+_, _-_, _*_, _<_, _≤_}
-use mathlib.Core.Path.{ap, _∙_}
+-- A draw that ends the search is out of range, where there are draws enough (specs/Ranges.antt).
+use Prim.Native.Nat.{ℕ, zero, suc, _+_, _-_, _*_, _≤_, max}
+use mathlib.Core.Path.{_≡_, refl, sym, _∙_, ap, subst}
 use mathlib.Core.List.{List}
-use native.Mathlib.Nat.{suc-mul}
+use native.Mathlib.Nat.{suc-mul, zero-mul}
 use native.Mathlib.Omega.{arith}
-use lib.ListN.{length, length-drop}
+use lib.ListN.{length, drop}
 use lib.Ieee.{Float}
-use Rattle.lists.specs.Lists.{numbers}
+use Rattle.columns.specs.Pair.{squaredAt}
 use Rattle.draws.specs.Counts.{seedingOf, seedingsOf, countOf}
-use Rattle.draws.proofs.Taken.{Ends, ends-map}
-use Rattle.draws.proofs.Bad.{Bad, EndsBad, then-bad}
+use Rattle.draws.proofs.Counting.{seedings-more}
+use Rattle.draws.proofs.Bad.{Reads, reads-map, then-reads}
+use Rattle.seeding.specs.Ranges.{OutOfRange}
 use Rattle.clustering.specs.Clustering.{kmeansOf}
-use Rattle.clustering.proofs.Laws.{Took, Among, kmeans-took}
 use Rattle.clustering.proofs.Bad.{kmeans-bad}
 use Rattle.candidates.specs.Candidates.{candidateOf, Best, nothing, keep, triesFrom, tries, repeatsFrom, bestOf}
-use Rattle.candidates.proofs.Laws.{Passed, Within, count-is, repeat-took}
+use Rattle.candidates.specs.Ranges.{RoundOutOfRange}
+use Rattle.candidates.proofs.Laws.{count-is}
 
-module _ (x : ℕ → ℕ → Float) (m : ℕ) (z : 0 < m) (few : m ≤ 256) where
-  tries-bad : (j k : ℕ) → 0 < k → (b : Best) (at : ℕ) (ds : List ℕ) → seedingsOf k j ≤ length ds → EndsBad m at ds (triesFrom x m k j b at ds)
+module _ (x : ℕ → ℕ → Float) (m : ℕ) (draws : List ℕ) where
+  -- out of range for a seeding of the repeat that starts at place `from`
+  abbrev InRepeat : ℕ → ℕ → Type 0
+  InRepeat from p = (k : ℕ) × (2 ≤ k) × (k ≤ max 2 (m - 1)) × OutOfRange (squaredAt x m) m k (from + seedingsOf 2 (k - 2)) draws p
+
+  seedings-none : seedingsOf 2 (2 - 2) ≡ 0
+  unfolding seedingsOf
+  seedings-none = refl
+
+  seedings-to : (k : ℕ) → 2 ≤ k → seedingsOf 2 (suc k - 2) ≡ seedingsOf 2 (k - 2) + seedingOf k
+  seedings-to k two =
+      let s : suc k - 2 ≡ suc (k - 2) = omega arith in
+      let e : 2 + (k - 2) ≡ k = omega arith in
+      ap (seedingsOf 2) s ∙ seedings-more (k - 2) 2 ∙ ap (λ (i : ℕ). seedingsOf 2 (k - 2) + seedingOf i) e
+
+  tries-bad : (from j k : ℕ) → 2 ≤ k → k + j ≡ 2 + tries m → (b : Best) (at : ℕ) → at ≡ from + seedingsOf 2 (k - 2) → at + seedingsOf k j ≤ length draws
+      → Reads draws (at + seedingsOf k j) (InRepeat from) (triesFrom x m k j b at (drop at draws))
   unfolding triesFrom seedingsOf
-  tries-bad zero k some b at ds l = tt
-  tries-bad (suc j) k some b at ds l =
-      then-bad (Took m k ds) (Among k at) m at (seedingOf k) ds
-      (kmeansOf x m k at ds) (λ g rest. triesFrom x m (suc k) j (keep (candidateOf x m (g .labels)) b) (at + seedingOf k) rest)
-      (kmeans-took x m k z some at ds)
-      (kmeans-bad x m k z few at ds (omega arith))
-      (λ g rest t. (t .2, tries-bad j (suc k) (omega arith) (keep (candidateOf x m (g .labels)) b) (at + seedingOf k) rest (omega (arith, ap length (t .2) ∙ length-drop (seedingOf k) ds))))
+  tries-bad from zero k two end b at e l = let z : at ≡ at + 0 = omega arith in ap (λ (i : ℕ). drop i draws) z
+  tries-bad from (suc j) k two end b at e l =
+      then-reads draws (at + seedingOf k) (at + seedingsOf k (suc j)) (OutOfRange (squaredAt x m) m k at draws) (InRepeat from)
+      (kmeansOf x m k at (drop at draws)) (λ g rest. triesFrom x m (suc k) j (keep (candidateOf x m (g .labels)) b) (at + seedingOf k) rest)
+      (kmeans-bad x m k draws at (omega arith))
+      (λ g d.
+      reads-map draws (at + seedingOf k + seedingsOf (suc k) j) (at + seedingsOf k (suc j)) (InRepeat from) (InRepeat from)
+      (triesFrom x m (suc k) j (keep (candidateOf x m (g .labels)) b) (at + seedingOf k) (drop (at + seedingOf k) draws))
+      (tries-bad from j (suc k) (omega arith) (omega arith) (keep (candidateOf x m (g .labels)) b) (at + seedingOf k) (omega (arith, e, seedings-to k two)) (omega arith))
+      (omega arith) (λ p o. o))
+      (λ p o. (k, two, omega arith, subst (λ (i : ℕ). OutOfRange (squaredAt x m) m k i draws p) e o))
 
-  repeats-bad : 2 ≤ m → (r : ℕ) (b : Best) (at : ℕ) (ds : List ℕ) → r * countOf m ≤ length ds → EndsBad m at ds (repeatsFrom x m r b at ds)
+  repeats-bad : (repeats start r i : ℕ) → i + r ≡ repeats → (b : Best) (at : ℕ) → at ≡ start + i * countOf m → at + r * countOf m ≤ length draws
+      → Reads draws (at + r * countOf m) (RoundOutOfRange x m repeats start draws) (repeatsFrom x m r b at (drop at draws))
   unfolding repeatsFrom
-  repeats-bad two zero b at ds l = tt
-  repeats-bad two (suc r) b at ds l =
-      then-bad (Passed (λ v. Unit) (countOf m) ds) (Within at (countOf m)) m at (countOf m) ds
-      (triesFrom x m 2 (tries m) b at ds) (λ v rest. repeatsFrom x m r v (at + countOf m) rest)
-      (repeat-took x m z (λ v. Unit) (λ a c d e f. tt) two b at ds tt)
-      (tries-bad (tries m) 2 (omega arith) b at ds (rw (← count-is m) (omega (arith, suc-mul r (countOf m)))))
-      (λ v rest t. (t .1, repeats-bad two r v (at + countOf m) rest (omega (arith, ap length (t .1) ∙ length-drop (countOf m) ds, suc-mul r (countOf m)))))
+  repeats-bad repeats start zero i n b at e l = let z : at ≡ at + 0 * countOf m = omega (arith, zero-mul (countOf m)) in ap (λ (i : ℕ). drop i draws) z
+  repeats-bad repeats start (suc r) i n b at e l =
+      let c : at + seedingsOf 2 (tries m) ≡ at + countOf m = ap (λ (i : ℕ). at + i) (sym (count-is m)) in
+      then-reads draws (at + countOf m) (at + suc r * countOf m) (InRepeat at) (RoundOutOfRange x m repeats start draws)
+      (triesFrom x m 2 (tries m) b at (drop at draws)) (λ v rest. repeatsFrom x m r v (at + countOf m) rest)
+      (reads-map draws (at + seedingsOf 2 (tries m)) (at + countOf m) (InRepeat at) (InRepeat at) (triesFrom x m 2 (tries m) b at (drop at draws))
+      (tries-bad at (tries m) 2 (omega arith) refl b at (omega (arith, seedings-none)) (omega (arith, c, suc-mul r (countOf m)))) c (λ p o. o))
+      (λ v d.
+      reads-map draws (at + countOf m + r * countOf m) (at + suc r * countOf m) (RoundOutOfRange x m repeats start draws) (RoundOutOfRange x m repeats start draws)
+      (repeatsFrom x m r v (at + countOf m) (drop (at + countOf m) draws))
+      (repeats-bad repeats start r (suc i) (omega arith) v (at + countOf m) (omega (arith, e, suc-mul i (countOf m))) (omega (arith, suc-mul r (countOf m))))
+      (omega (arith, suc-mul r (countOf m))) (λ p o. o))
+      (λ p o. (i, o .0, omega arith, o .1, o .2, subst (λ (s : ℕ). OutOfRange (squaredAt x m) m (o .0) (s + seedingsOf 2 (o .0 - 2)) draws p) e (o .3)))
 
-pub best-bad : (x : ℕ → ℕ → Float) (m repeats : ℕ) → 2 ≤ m → m ≤ 256 → (at : ℕ) (ds : List ℕ) → repeats * countOf m ≤ length ds
-    → Ends (λ b rest. Unit) (λ p. m ≤ numbers ds (p - at)) (bestOf x m repeats at ds)
+pub best-bad : (x : ℕ → ℕ → Float) (m repeats : ℕ) (draws : List ℕ) (at : ℕ) → at + repeats * countOf m ≤ length draws
+    → Reads draws (at + repeats * countOf m) (RoundOutOfRange x m repeats at draws) (bestOf x m repeats at (drop at draws))
 unfolding bestOf
-best-bad x m repeats two few at ds l =
-    ends-map (λ b rest. Unit) (Bad m at ds) (λ b rest. Unit) (λ p. m ≤ numbers ds (p - at)) (repeatsFrom x m repeats nothing at ds)
-    (repeats-bad x m (omega arith) few two repeats nothing at ds l) (λ b rest h. tt) (λ p h. h .1)
+best-bad x m repeats draws at l = repeats-bad x m draws repeats at repeats 0 (omega arith) nothing at (omega (arith, zero-mul (countOf m))) l

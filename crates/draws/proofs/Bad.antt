@@ -1,52 +1,52 @@
--- Where there are draws enough, a draw that ends a run is out of range: it is not below m, where each limit is m or more.
-use Prim.Native.Nat.{ℕ, zero, suc, _+_, _-_, _≤_}
-use mathlib.Core.Path.{_≡_, refl, _∙_, ap, subst}
+-- Where there are draws enough, a draw that ends a run is not below its limit. `draws` are all of them, and each place is one in them.
+use Prim.Native.Nat.{ℕ, zero, suc, _+_, _<_, _≤_}
+use mathlib.Core.Path.{_≡_, refl, _∙_, ap}
 use mathlib.Core.Bool.{Bool, true, false, cond}
-use mathlib.Core.List.{List, [], _∷_}
-use native.Mathlib.Nat.{not-suc-le-zero, le-of-suc-le-suc}
+use mathlib.Core.List.{List}
+use native.Mathlib.Numerals.{add-one}
 use native.Mathlib.Omega.{arith}
 use borrow.Author.Tests.{ltb-false}
 use lib.Dec.{ltb}
 use lib.ListN.{length, drop}
-use lib.Seq.{getD-drop}
+use lib.Seq.{drop-cons}
 use Rattle.lists.specs.Lists.{numbers}
 use Rattle.draws.specs.Draws.{Drawn, drawn, refused, takes, andThen}
 use Rattle.draws.proofs.Taken.{Ends}
 
--- the draw at place p, where the first of ds has the place `at`
-abbrev pub Bad : ℕ → ℕ → List ℕ → ℕ → Type 0
-Bad m at ds p = (at ≤ p) × (m ≤ numbers ds (p - at))
+-- the draws from place `next` on remain; or Q holds of the place of the draw that ended the run
+abbrev pub Reads : {S : Type 0} → List ℕ → ℕ → (ℕ → Type 0) → Drawn S → Type 0
+Reads draws next Q D = Ends (λ s rest. rest ≡ drop next draws) Q D
 
-abbrev pub EndsBad : {S : Type 0} → ℕ → ℕ → List ℕ → Drawn S → Type 0
-EndsBad m at ds D = Ends (λ s rest. Unit) (Bad m at ds) D
+pub reads-map : {S : Type 0} (draws : List ℕ) (next next′ : ℕ) (Q Q′ : ℕ → Type 0) (D : Drawn S) → Reads draws next Q D → next ≡ next′ → ((p : ℕ) → Q p → Q′ p)
+    → Reads draws next′ Q′ D
+reads-map draws next next′ Q Q′ (drawn s rest) h e k = h ∙ ap (λ (i : ℕ). drop i draws) e
+reads-map draws next next′ Q Q′ (refused p) h e k = k p h
 
--- among the draws behind the first c
-pub bad-later : (m at c : ℕ) (ds rest : List ℕ) → rest ≡ drop c ds → (p : ℕ) → Bad m (at + c) rest p → Bad m at ds p
-bad-later m at c ds rest e p h =
-    let i : c + (p - (at + c)) ≡ p - at = omega (arith, h .0) in
-    let d : numbers rest (p - (at + c)) ≡ numbers ds (p - at) = ap (λ (xs : List ℕ). numbers xs (p - (at + c))) e ∙ getD-drop c ds (p - (at + c)) 0 ∙ ap (numbers ds) i in
-    (omega (arith, h .0), subst (λ (x : ℕ). m ≤ x) d (h .1))
+-- some draws, and then others
+pub then-reads : {S U : Type 0} (draws : List ℕ) (next next′ : ℕ) (Q Q′ : ℕ → Type 0) (D : Drawn S) (f : S → List ℕ → Drawn U) → Reads draws next Q D
+    → ((s : S) → D ≡ drawn s (drop next draws) → Reads draws next′ Q′ (f s (drop next draws))) → ((p : ℕ) → Q p → Q′ p) → Reads draws next′ Q′ (andThen D f)
+then-reads draws next next′ Q Q′ (drawn s rest) f h g k = rw h (g s (ap (drawn s) h))
+then-reads draws next next′ Q Q′ (refused p) f h g k = k p h
 
-ends-later : {S : Type 0} (m at c : ℕ) (ds rest : List ℕ) → rest ≡ drop c ds → (D : Drawn S) → EndsBad m (at + c) rest D → EndsBad m at ds D
-ends-later m at c ds rest e (drawn s r) h = tt
-ends-later m at c ds rest e (refused p) h = bad-later m at c ds rest e p h
+-- the draw at place p, one of the n from `at` on, is not below the limit
+abbrev pub Above : ℕ → ℕ → ℕ → List ℕ → ℕ → Type 0
+Above limit at n draws p = (at ≤ p) × (p < at + n) × (limit ≤ numbers draws p)
 
--- c draws, and then others
-pub then-bad : {S U : Type 0} (P : S → List ℕ → Type 0) (Q : ℕ → Type 0) (m at c : ℕ) (ds : List ℕ) (D : Drawn S) (f : S → List ℕ → Drawn U) → Ends P Q D → EndsBad m at ds D
-    → ((s : S) (rest : List ℕ) → P s rest → (rest ≡ drop c ds) × EndsBad m (at + c) rest (f s rest)) → EndsBad m at ds (andThen D f)
-then-bad P Q m at c ds (drawn s rest) f h b g = let v = g s rest h in ends-later m at c ds rest (v .0) (f s rest) (v .1)
-then-bad P Q m at c ds (refused p) f h b g = b
-
--- n draws below a limit that is m or more
-pub takes-bad : {S : Type 0} (limit m : ℕ) (step : S → ℕ → S) → m ≤ limit → (n : ℕ) (s : S) (at : ℕ) (ds : List ℕ) → n ≤ length ds → EndsBad m at ds (takes limit step n s at ds)
+-- n draws below a limit
+pub takes-bad : {S : Type 0} (limit : ℕ) (step : S → ℕ → S) (draws : List ℕ) (n : ℕ) (s : S) (at : ℕ) → at + n ≤ length draws
+    → Reads draws (at + n) (Above limit at n draws) (takes limit step n s at (drop at draws))
 unfolding takes
-takes-bad limit m step few zero s at ds l = tt
-takes-bad limit m step few (suc n) s at [] l = absurd (not-suc-le-zero l)
-takes-bad {S} limit m step few (suc n) s at (d ∷ ds) l = by-test (ltb d limit) refl (takes-bad limit m step few n (step s d) (at + 1) ds (le-of-suc-le-suc l))
+takes-bad limit step draws zero s at l = let z : at ≡ at + 0 = omega arith in ap (λ (i : ℕ). drop i draws) z
+takes-bad {S} limit step draws (suc n) s at l =
+    let there : at < length draws = omega arith in
+    rw (drop-cons draws at 0 there) (by-test (ltb (numbers draws at) limit) refl (takes-bad limit step draws n (step s (numbers draws at)) (at + 1) (omega arith)))
   where
-    by-test : (t : Bool) → ltb d limit ≡ t → EndsBad m (at + 1) ds (takes limit step n (step s d) (at + 1) ds)
-        → EndsBad m at (d ∷ ds) (cond t (takes limit step n (step s d) (at + 1) ds) (refused at))
-    by-test true e h = ends-later m at 1 (d ∷ ds) ds refl (takes limit step n (step s d) (at + 1) ds) h
-    by-test false e h =
-        let z : at - at ≡ 0 = omega arith in
-        (omega arith, rw z (omega (arith, ltb-false d limit e)))
+    by-test : (t : Bool) → ltb (numbers draws at) limit ≡ t
+        → Reads draws (at + 1 + n) (Above limit (at + 1) n draws) (takes limit step n (step s (numbers draws at)) (at + 1) (drop (at + 1) draws))
+        → Reads draws (at + suc n) (Above limit at (suc n) draws)
+        (cond t (takes limit step n (step s (numbers draws at)) (at + 1) (drop (suc at) draws)) (refused at))
+    by-test true e h =
+        rw (← add-one at)
+        (reads-map draws (at + 1 + n) (at + suc n) (Above limit (at + 1) n draws) (Above limit at (suc n) draws)
+        (takes limit step n (step s (numbers draws at)) (at + 1) (drop (at + 1) draws)) h (omega arith) (λ p b. (omega (arith, b .0), omega (arith, b .1), b .2)))
+    by-test false e h = (omega arith, omega arith, ltb-false (numbers draws at) limit e)

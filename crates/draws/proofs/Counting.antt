@@ -1,5 +1,5 @@
--- Laws of counts: more names never take fewer draws, 256 names take 214,428, and a seeding of a round is within the round's count.
-use mathlib.Core.Path.{_≡_, refl, subst}
+-- Laws of counts: more names never take fewer draws, 256 names take 214,428, a seeding of a round is within the round's count, and one seeding more.
+use mathlib.Core.Path.{_≡_, refl, ap, subst}
 use mathlib.Core.Bool.{Bool, true, false, cond}
 use Prim.Native.Nat.{ℕ, zero, suc, _+_, _-_, _*_, _≤_, _<_, max, zero-le}
 use native.Mathlib.Nat.{le-of-suc-le-suc, not-suc-le-zero, mul-le-mul, add-zero}
@@ -58,3 +58,11 @@ unfolding countOf
 seeding-in-count k m a b =
     let e : 2 + (k - 2) ≡ k = omega arith in
     subst (λ (x : ℕ). seedingOf x ≤ seedingsOf 2 (max 2 (m - 1) - 1)) e (seeding-among (k - 2) 2 (max 2 (m - 1) - 1) (omega arith))
+
+-- the seedings up to one more
+pub seedings-more : (j k : ℕ) → seedingsOf k (suc j) ≡ seedingsOf k j + seedingOf (k + j)
+unfolding seedingsOf
+seedings-more zero k = rw (add-zero k) (omega arith)
+seedings-more (suc j) k =
+    let e : suc k + j ≡ k + suc j = omega arith in
+    omega (arith, seedings-more j (suc k), ap seedingOf e)

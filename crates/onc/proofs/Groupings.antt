@@ -1,26 +1,31 @@
 -- Demand 2: what a call within the limits answers.
-use Prim.Native.Nat.{ℕ, _-_, _*_, _<_, _≤_}
+use Prim.Native.Nat.{ℕ, _+_, _*_, _<_, _≤_}
 use mathlib.Core.Path.{_≡_, refl, sym, _∙_, ap, subst}
-use mathlib.Core.List.{List, [], _∷_}
+use mathlib.Core.List.{List, [], _∷_, _++_}
 use mathlib.Core.Bool.{true}
 use mathlib.Core.Logic.{by-cases}
 use native.Mathlib.Omega.{arith}
 use native.Mathlib.Decide.{decLt}
-use lib.ListN.{length, List·getD-eq-default}
+use lib.ListN.{length, drop, List·getD-eq-default}
 use lib.Ieee.{Float, nan}
 use Rattle.lists.specs.Lists.{listed, numbers, cellAt, flat, grid}
 use Rattle.lists.proofs.Listed.{length-listed, getD-listed}
 use Rattle.lists.proofs.Grid.{grid-at}
-use Rattle.distance.specs.Distance.{through}
+use Rattle.distance.specs.Distance.{through, distAt}
+use Rattle.draws.specs.Draws.{Drawn, drawn, refused}
 use Rattle.draws.specs.declared.Stop.the-variants.{Rounds, Short, DrawOutOfRange, ClusteringFailed}
 use Rattle.partition.specs.Partition.{Partition, State, has, joined, groupAt}
 use Rattle.partition.specs.Orders.{sizesOf}
-use Rattle.rounds.specs.Round.{Run, done, ended, roundOf, needOf}
+use Rattle.draws.proofs.Bad.{Reads}
+use Rattle.candidates.specs.Candidates.{Best, found, bestOf}
+use Rattle.candidates.specs.Ranges.{RoundOutOfRange}
+use Rattle.candidates.proofs.Bad.{best-bad}
+use Rattle.rounds.specs.Round.{Run, done, ended, roundOf, needOf, totalOf}
 use Rattle.partition.proofs.Cuts.{cut-joined, groups-few}
 use Rattle.rounds.proofs.Runs.{Whole, whole}
-use Rattle.rounds.proofs.Spends.{Spends, spends}
+use Rattle.rounds.proofs.Spends.{ReachedFrom, start, further, BadDraw, Spends, spends, searchOf as searchFrom, draws-none, draws-more, draws-one}
 use Rattle.onc.specs.Onc.{Lists, Outcome, runOf, finalOf, ran, groupOf}
-use Rattle.onc.specs.Demands.{Within, GroupingOf, EndsWith, Demand2}
+use Rattle.onc.specs.Demands.{Within, GroupingOf, searchOf, Reached, first, next, MeetsDraw, EndsWith, Demand2}
 use Rattle.onc.proofs.Calls.{within-ran}
 
 -- the rows of the first round
@@ -63,9 +68,9 @@ ran-grouping book n s ms read rest l p long =
     }
 
 -- what the run takes of its draws
-pub run-spends : (book : List Float) (n repeat : ℕ) (draws : List ℕ) → 2 ≤ n → n ≤ 256 → Spends book n repeat 32 (all n) 0 draws (runOf book n repeat draws)
+pub run-spends : (book : List Float) (n repeat : ℕ) (draws : List ℕ) → 2 ≤ n → Spends book n repeat 32 (all n) 0 draws (runOf book n repeat draws)
 unfolding runOf
-run-spends book n repeat draws two few = spends book n repeat 32 (all n) 0 draws (omega (arith, all-length n)) (omega (arith, all-length n))
+run-spends book n repeat draws two = spends book n repeat 32 (all n) 0 draws (omega (arith, all-length n))
 
 -- and that it ends in a partition of all names, where it ends in groups
 pub run-whole : (book : List Float) (n repeat : ℕ) (draws : List ℕ) → 2 ≤ n → Whole n (runOf book n repeat draws)
@@ -73,27 +78,62 @@ unfolding runOf
 run-whole book n repeat draws two =
     subst (λ (m : ℕ). Whole m (roundOf book n repeat 32 (all n) 0 draws)) (all-length n) (whole book n repeat 32 (all n) 0 draws (omega (arith, all-length n)))
 
+-- the draws of rounds one after the other
+pub draws-append : (repeat : ℕ) (before : List ℕ) (m : ℕ) → totalOf repeat (before ++ (m ∷ [])) ≡ totalOf repeat before + needOf repeat m
+draws-append repeat [] m = omega (arith, draws-one repeat m, draws-none repeat)
+draws-append repeat (k ∷ before) m = omega (arith, draws-more repeat k (before ++ (m ∷ [])), draws-append repeat before m, draws-more repeat k before)
+
 module _ (book : List Float) (n repeat : ℕ) (draws : List ℕ) where
-  of-enough : 32 * needOf repeat n ≤ length draws → (r : Run) → Spends book n repeat 32 (all n) 0 draws r → EndsWith draws r
+  -- the search of the last round, with no draw read before the first
+  pub search-same : (before items : List ℕ) (D : Drawn Best) → searchFrom book n repeat 0 draws before items ≡ D → searchOf book n repeat draws before items ≡ D
+  search-same before items D h =
+      let z : totalOf repeat before ≡ 0 + totalOf repeat before = omega arith in
+      ap (λ (i : ℕ). bestOf (distAt book n items) (length items) repeat i (drop (totalOf repeat before) draws)) z ∙ h
+
+  -- a round that is reached from the first
+  pub reached-same : {before items : List ℕ} → ReachedFrom book n repeat (all n) 0 draws before items → Reached book n repeat draws before items
+  reached-same start = first
+  reached-same (further before items k rest l q w) = next before items k rest (reached-same l) (search-same before items (drawn (found k) rest) q) w
+
+  -- a draw that ends the run is out of range
+  pub meets-draw : (p : ℕ) (ms : List ℕ) → BadDraw book n repeat 32 (all n) 0 draws p ms → MeetsDraw book n repeat draws p ms
+  meets-draw p ms k =
+      let at = totalOf repeat (k .before) in
+      let m = length (k .items) in
+      let e : totalOf repeat ms ≡ at + needOf repeat m = ap (totalOf repeat) (k .rounds) ∙ draws-append repeat (k .before) m in
+      let met : searchOf book n repeat draws (k .before) (k .items) ≡ refused p = search-same (k .before) (k .items) (refused p) (k .cause) in (
+        k .before,
+        k .items,
+        reached-same (k .reached),
+        k .rounds,
+        k .some,
+        k .enough,
+        omega (arith, k .to, k .enough),
+        omega (arith, k .from),
+        omega (arith, k .to, e),
+        met,
+        subst (Reads draws (at + needOf repeat m) (RoundOutOfRange (distAt book n (k .items)) m repeat at draws)) met
+            (best-bad (distAt book n (k .items)) m repeat draws at (omega (arith, e, k .enough))),
+      )
+
+  of-enough : 32 * needOf repeat n ≤ length draws → (r : Run) → Spends book n repeat 32 (all n) 0 draws r → EndsWith book n repeat draws r
   of-enough h (done s ms read rest) k = tt
   of-enough h (ended Rounds ms) k = k .count
   of-enough h (ended (Short p) ms) k =
       let e : needOf repeat (length (all n)) ≡ needOf repeat n = ap (needOf repeat) (all-length n) in
       let y : ⊥ = omega (arith, k .least, ap (λ (c : ℕ). 32 * c) e) in
       y
-  of-enough h (ended (DrawOutOfRange p) ms) k =
-      let e : p - 0 ≡ p = omega arith in
-      (k .before, length (k .items), k .rounds, omega (arith, k .to, k .enough), k .some, subst (λ (i : ℕ). length (k .items) ≤ numbers draws i) e (k .bad))
+  of-enough h (ended (DrawOutOfRange p) ms) k = meets-draw p ms k
   of-enough h (ended ClusteringFailed ms) k = tt
 
 -- the number of a call, from how its run ends
-not-seven : (draws : List ℕ) (r : Run) → EndsWith draws r → has (0 ∷ 9 ∷ 8 ∷ 3 ∷ []) (finalOf r .refused .number) ≡ true
+not-seven : (book : List Float) (n repeat : ℕ) (draws : List ℕ) (r : Run) → EndsWith book n repeat draws r → has (0 ∷ 9 ∷ 8 ∷ 3 ∷ []) (finalOf r .refused .number) ≡ true
 unfolding has
-not-seven draws (done s ms read rest) h = refl
-not-seven draws (ended Rounds ms) h = refl
-not-seven draws (ended (Short k) ms) h = absurd h
-not-seven draws (ended (DrawOutOfRange p) ms) h = refl
-not-seven draws (ended ClusteringFailed ms) h = refl
+not-seven book n repeat draws (done s ms read rest) h = refl
+not-seven book n repeat draws (ended Rounds ms) h = refl
+not-seven book n repeat draws (ended (Short k) ms) h = absurd h
+not-seven book n repeat draws (ended (DrawOutOfRange p) ms) h = refl
+not-seven book n repeat draws (ended ClusteringFailed ms) h = refl
 
 -- number 0 is a run that ended in a partition
 of-zero : (r : Run) → finalOf r .refused .number ≡ 0 → (s : State) × (ms : List ℕ) × (read : ℕ) × (rest : List ℕ) × (r ≡ done s ms read rest)
@@ -108,7 +148,7 @@ second book n repeat draws l w =
     record {
       exact = exact;
       enough = ends;
-      not-short = λ h. ap (has (0 ∷ 9 ∷ 8 ∷ 3 ∷ [])) number ∙ not-seven draws (runOf book n repeat draws) (ends h);
+      not-short = λ h. ap (has (0 ∷ 9 ∷ 8 ∷ 3 ∷ [])) number ∙ not-seven book n repeat draws (runOf book n repeat draws) (ends h);
       grouped = λ h. of-zero (runOf book n repeat draws) (sym number ∙ h);
       grouping = λ s ms read rest e.
           let h : Whole n (done s ms read rest) = subst (Whole n) e (run-whole book n repeat draws (w .two)) in
@@ -122,5 +162,5 @@ second book n repeat draws l w =
     number : groupOf book n n repeat draws l .answer .refused .number ≡ finalOf (runOf book n repeat draws) .refused .number
     number = ap (λ (o : Outcome). o .answer .refused .number) exact
 
-    ends : 32 * needOf repeat n ≤ length draws → EndsWith draws (runOf book n repeat draws)
-    ends h = of-enough book n repeat draws h (runOf book n repeat draws) (run-spends book n repeat draws (w .two) (w .few))
+    ends : 32 * needOf repeat n ≤ length draws → EndsWith book n repeat draws (runOf book n repeat draws)
+    ends h = of-enough book n repeat draws h (runOf book n repeat draws) (run-spends book n repeat draws (w .two))

@@ -2,7 +2,7 @@
 use Prim.Native.Nat.{ℕ, _+_, _*_, _<_, _≤_}
 use mathlib.Core.Path.{_≡_, refl, sym, _∙_, ap, subst}
 use mathlib.Core.Bool.{true, false}
-use mathlib.Core.List.{List, [], _∷_, _++_}
+use mathlib.Core.List.{List}
 use native.Mathlib.Omega.{arith}
 use borrow.Author.Tests.{eq-eqb}
 use lib.Dec.{eqb}
@@ -18,17 +18,12 @@ use Rattle.partition.specs.Partition.{State}
 use Rattle.candidates.specs.Candidates.{Best, nothing, found, bestOf}
 use Rattle.rounds.specs.Round.{Run, done, ended, needOf, totalOf}
 use Rattle.candidates.proofs.Laws.{Found, best-took}
-use Rattle.rounds.proofs.Spends.{ReachedFrom, start, further, Spends, searchOf as searchFrom, draws-none, draws-more, draws-one}
+use Rattle.rounds.proofs.Spends.{Spends}
 use Rattle.onc.specs.Onc.{Lists, Outcome, shape, runOf, finalOf, ran, groupOf}
-use Rattle.onc.specs.Demands.{Cause, no-repeat, not-square, few-rows, many-rows, many-repeats, cell-count, list-length, outputs, roundsOf, AsLong, Counted, Takes, searchOf, Reached, first, next, Spent, Demand3}
+use Rattle.onc.specs.Demands.{Cause, no-repeat, not-square, few-rows, many-rows, many-repeats, cell-count, list-length, outputs, roundsOf, AsLong, Counted, Takes, Spent, Demand3}
 use Rattle.onc.proofs.Shapes.{shape-cause, shape-within, shape-same}
 use Rattle.onc.proofs.Calls.{call-ran, by-call}
-use Rattle.onc.proofs.Groupings.{all, all-length, run-spends}
-
--- the draws of rounds one after the other
-draws-append : (repeat : ℕ) (before : List ℕ) (m : ℕ) → totalOf repeat (before ++ (m ∷ [])) ≡ totalOf repeat before + needOf repeat m
-draws-append repeat [] m = omega (arith, draws-one repeat m, draws-none repeat)
-draws-append repeat (k ∷ before) m = omega (arith, draws-more repeat k (before ++ (m ∷ [])), draws-append repeat before m, draws-more repeat k before)
+use Rattle.onc.proofs.Groupings.{all, all-length, run-spends, search-same, reached-same, meets-draw}
 
 -- no refusal before the run has the number 0 or 7
 not-seven : {book : List Float} {rows cols repeat : ℕ} {l : Lists} {k : ℕ} → Cause book rows cols repeat l k → k ≡ 7 → ⊥
@@ -45,17 +40,6 @@ not-zero k h e = impossible (sym h ∙ eq-eqb k 0 e)
 
 -- what a run takes of its draws, from its first round on
 module _ (book : List Float) (rows repeat : ℕ) (draws : List ℕ) where
-  -- the search of the last round, with no draw read before the first
-  search-same : (before items : List ℕ) (D : Drawn Best) → searchFrom book rows repeat 0 draws before items ≡ D → searchOf book rows repeat draws before items ≡ D
-  search-same before items D h =
-      let z : totalOf repeat before ≡ 0 + totalOf repeat before = omega arith in
-      ap (λ (i : ℕ). bestOf (distAt book rows items) (length items) repeat i (drop (totalOf repeat before) draws)) z ∙ h
-
-  -- a round that is reached from the first
-  reached-same : {before items : List ℕ} → ReachedFrom book rows repeat (all rows) 0 draws before items → Reached book rows repeat draws before items
-  reached-same start = first
-  reached-same (further before items k rest l q w) = next before items k rest (reached-same l) (search-same before items (drawn (found k) rest) q) w
-
   of-spends : (r : Run) → Spends book rows repeat 32 (all rows) 0 draws r → Spent book rows repeat draws r
   of-spends (done s ms read rest) k =
       let count : read ≡ totalOf repeat ms = omega (arith, k .place) in (
@@ -64,29 +48,18 @@ module _ (book : List Float) (rows repeat : ℕ) (draws : List ℕ) where
         k .before,
         k .items,
         k .best,
-        reached-same (k .reached),
+        reached-same book rows repeat draws (k .reached),
         k .rounds,
-        search-same (k .before) (k .items) (drawn (found (k .best)) rest) (k .cause),
+        search-same book rows repeat draws (k .before) (k .items) (drawn (found (k .best)) rest) (k .cause),
         k .kept,
       )
-  of-spends (ended Rounds ms) k = (k .count, k .enough, k .items, reached-same (k .reached))
+  of-spends (ended Rounds ms) k = (k .count, k .enough, k .items, reached-same book rows repeat draws (k .reached))
   of-spends (ended (Short p) ms) k =
       let count : p ≡ totalOf repeat ms = omega (arith, k .place) in
-      (count, omega (arith, count, k .enough), k .items, reached-same (k .reached), omega (arith, count, k .short))
-  of-spends (ended (DrawOutOfRange p) ms) k =
-      let e : totalOf repeat ms ≡ totalOf repeat (k .before) + needOf repeat (length (k .items)) =
-      ap (totalOf repeat) (k .rounds) ∙ draws-append repeat (k .before) (length (k .items)) in (
-        k .before,
-        k .items,
-        reached-same (k .reached),
-        k .rounds,
-        k .enough,
-        omega (arith, k .from),
-        omega (arith, k .to, e),
-        search-same (k .before) (k .items) (refused p) (k .cause),
-      )
+      (count, omega (arith, count, k .enough), k .items, reached-same book rows repeat draws (k .reached), omega (arith, count, k .short))
+  of-spends (ended (DrawOutOfRange p) ms) k = meets-draw book rows repeat draws p ms k
   of-spends (ended ClusteringFailed ms) k =
-      (k .before, k .items, k .rest, reached-same (k .reached), k .rounds, k .enough, search-same (k .before) (k .items) (drawn nothing (k .rest)) (k .cause))
+      (k .before, k .items, k .rest, reached-same book rows repeat draws (k .reached), k .rounds, k .enough, search-same book rows repeat draws (k .before) (k .items) (drawn nothing (k .rest)) (k .cause))
 
   -- the place of 7
   of-short : (r : Run) → Spends book rows repeat 32 (all rows) 0 draws r → finalOf r .refused .number ≡ 7 → finalOf r .refused .place ≡ totalOf repeat (roundsOf r)
@@ -138,12 +111,12 @@ pub third : (book : List Float) (rows cols repeat : ℕ) (draws : List ℕ) (l :
 third book rows cols repeat draws l =
     record {
       grouped = by-call book rows cols repeat draws l (λ (o : Outcome). o .answer .refused .number ≡ 0 → Counted book rows cols repeat draws l (o .answer .read))
-          (λ e. let w = shape-within book rows cols repeat l e .1 in of-grouped book rows repeat draws cols l e r refl (took (w .two) (w .few)))
+          (λ e. let w = shape-within book rows cols repeat l e .1 in of-grouped book rows repeat draws cols l e r refl (took (w .two)))
           (λ e h. absurd (not-zero (shape book rows cols repeat l .number) e h));
       short = by-call book rows cols repeat draws l (λ (o : Outcome). o .answer .refused .number ≡ 7 → o .answer .refused .place ≡ totalOf repeat (roundsOf r))
-          (λ e. let w = shape-within book rows cols repeat l e .1 in of-short book rows repeat draws r (took (w .two) (w .few)))
+          (λ e. let w = shape-within book rows cols repeat l e .1 in of-short book rows repeat draws r (took (w .two)))
           (λ e h. absurd (not-seven (shape-cause book rows cols repeat l e) h));
-      spent = λ two few. of-spends book rows repeat draws r (took two few);
+      spent = λ two. of-spends book rows repeat draws r (took two);
       each = λ items read ds two.
           of-best (distAt book rows items) (length items) (needOf repeat (length items)) read ds (bestOf (distAt book rows items) (length items) repeat read ds)
           (best-took (distAt book rows items) (length items) repeat two read ds);
@@ -152,5 +125,5 @@ third book rows cols repeat draws l =
     r : Run
     r = runOf book rows repeat draws
 
-    took : 2 ≤ rows → rows ≤ 256 → Spends book rows repeat 32 (all rows) 0 draws r
+    took : 2 ≤ rows → Spends book rows repeat 32 (all rows) 0 draws r
     took = run-spends book rows repeat draws

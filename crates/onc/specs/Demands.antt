@@ -14,6 +14,7 @@ use Rattle.draws.specs.declared.Stop.the-variants.{Rounds, Short, DrawOutOfRang
 use Rattle.partition.specs.Partition.{Partition, State, has, joined}
 use Rattle.partition.specs.Orders.{cut}
 use Rattle.candidates.specs.Candidates.{Candidate, Best, nothing, found, bestOf}
+use Rattle.candidates.specs.Ranges.{RoundOutOfRange}
 use Rattle.quality.specs.Quality.{qualitiesOf, weakCount}
 use Rattle.base.specs.Base.{baseOf}
 use Rattle.improve.specs.Improve.{weakItems}
@@ -104,20 +105,40 @@ pub record GroupingOf (book : List Float) (n : ℕ) (s : State) (o : Outcome) : 
   pub ordered-long : length (o .lists .ordered) ≡ n * n
   pub matrix : (i j : ℕ) → i < n → j < n → cellAt (o .lists .ordered) n i j ≡ cellAt book n (numbers (o .lists .order) i) (numbers (o .lists .order) j)
 
--- how a run with enough draws ends: in a grouping; or by 9, after 32 rounds; by 8, at the place of a draw that is not below the number of items, two or
--- more, of the round that reads it (an index must be, and a share has the higher limit 2 ^ 53); or by 3. Not by 7.
-abbrev pub EndsWith : List ℕ → Run → Type 0
-EndsWith draws (done s ms read rest) = Unit
-EndsWith draws (ended Rounds ms) = length ms ≡ 32
-EndsWith draws (ended (Short k) ms) = ⊥
-EndsWith draws (ended (DrawOutOfRange p) ms) = (before : List ℕ) × (m : ℕ) × (ms ≡ before ++ (m ∷ [])) × (p < length draws) × (2 ≤ m) × (m ≤ numbers draws p)
-EndsWith draws (ended ClusteringFailed ms) = Unit
+-- the search of a round over these items (rows of the book), after rounds that took exactly the draws in front of its own
+abbrev pub searchOf : List Float → ℕ → ℕ → List ℕ → (before items : List ℕ) → Drawn Best
+searchOf book n repeat draws before items = bestOf (distAt book n items) (length items) repeat (totalOf repeat before) (drop (totalOf repeat before) draws)
+
+-- a round over `items` (rows of the book) is reached after rounds of `before` items, which took exactly their counts: the first round is over all names,
+-- and each later one over the items of the weak groups of the base before it, of which there are more than two
+pub data Reached (book : List Float) (n repeat : ℕ) (draws : List ℕ) : List ℕ → List ℕ → Type 0 where
+  first : Reached book n repeat draws [] (listed (λ i. i) n)
+  next : (before items : List ℕ) (c : Candidate) (rest : List ℕ) → Reached book n repeat draws before items
+      → searchOf book n repeat draws before items ≡ drawn (found c) rest
+      → 2 < weakCount (qualitiesOf (c .scores) (baseOf (length items) c .groups))
+      → Reached book n repeat draws (before ++ (length items ∷ [])) (rowsOf items (weakItems (baseOf (length items) c)))
+
+-- how 8 is met, at the place p of a draw: in the last round that started, which is reached, has two items or more, and has its draws. Its search meets the
+-- draw, one of its own, and the draw is out of range: an index that is not below the number of items, or a share that is not below 2 ^ 53.
+abbrev pub MeetsDraw : List Float → ℕ → ℕ → List ℕ → ℕ → List ℕ → Type 0
+MeetsDraw book n repeat draws p ms =
+    (before : List ℕ) × (items : List ℕ) × Reached book n repeat draws before items × (ms ≡ before ++ (length items ∷ [])) × (2 ≤ length items)
+    × (totalOf repeat ms ≤ length draws) × (p < length draws) × (totalOf repeat before ≤ p) × (p < totalOf repeat before + needOf repeat (length items))
+    × (searchOf book n repeat draws before items ≡ refused p) × RoundOutOfRange (distAt book n items) (length items) repeat (totalOf repeat before) draws p
+
+-- how a run with enough draws ends: in a grouping; or by 9, after 32 rounds; by 8, at a draw out of range; or by 3. Not by 7.
+abbrev pub EndsWith : List Float → ℕ → ℕ → List ℕ → Run → Type 0
+EndsWith book n repeat draws (done s ms read rest) = Unit
+EndsWith book n repeat draws (ended Rounds ms) = length ms ≡ 32
+EndsWith book n repeat draws (ended (Short k) ms) = ⊥
+EndsWith book n repeat draws (ended (DrawOutOfRange p) ms) = MeetsDraw book n repeat draws p ms
+EndsWith book n repeat draws (ended ClusteringFailed ms) = Unit
 
 -- Demand 2. Within the limits a call answers and leaves exactly what the run of the definition gives. A list of 32 times the first round's count is
 -- enough draws, and then 7 is not answered. Where the run ends in a partition, so does the call, and nowhere else.
 pub record Demand2 (book : List Float) (n repeat : ℕ) (draws : List ℕ) (l : Lists) : Type 0 where
   pub exact : groupOf book n n repeat draws l ≡ ran book n (runOf book n repeat draws) l
-  pub enough : 32 * needOf repeat n ≤ length draws → EndsWith draws (runOf book n repeat draws)
+  pub enough : 32 * needOf repeat n ≤ length draws → EndsWith book n repeat draws (runOf book n repeat draws)
   pub not-short : 32 * needOf repeat n ≤ length draws → has (0 ∷ 9 ∷ 8 ∷ 3 ∷ []) (groupOf book n n repeat draws l .answer .refused .number) ≡ true
   pub grouping : (s : State) (ms : List ℕ) (read : ℕ) (rest : List ℕ) → runOf book n repeat draws ≡ done s ms read rest
       → GroupingOf book n s (groupOf book n n repeat draws l)
@@ -153,23 +174,10 @@ abbrev pub Takes : ℕ → ℕ → List ℕ → Drawn Best → Type 0
 Takes count read ds (drawn b rest) = (rest ≡ drop count ds) × (count ≤ length ds)
 Takes count read ds (refused p) = (read ≤ p) × (p < read + count)
 
--- the search of a round over these items (rows of the book), after rounds that took exactly the draws in front of its own
-abbrev pub searchOf : List Float → ℕ → ℕ → List ℕ → (before items : List ℕ) → Drawn Best
-searchOf book n repeat draws before items = bestOf (distAt book n items) (length items) repeat (totalOf repeat before) (drop (totalOf repeat before) draws)
-
--- a round over `items` (rows of the book) is reached after rounds of `before` items, which took exactly their counts: the first round is over all names,
--- and each later one over the items of the weak groups of the base before it, of which there are more than two
-pub data Reached (book : List Float) (n repeat : ℕ) (draws : List ℕ) : List ℕ → List ℕ → Type 0 where
-  first : Reached book n repeat draws [] (listed (λ i. i) n)
-  next : (before items : List ℕ) (c : Candidate) (rest : List ℕ) → Reached book n repeat draws before items
-      → searchOf book n repeat draws before items ≡ drawn (found c) rest
-      → 2 < weakCount (qualitiesOf (c .scores) (baseOf (length items) c .groups))
-      → Reached book n repeat draws (before ++ (length items ∷ [])) (rowsOf items (weakItems (baseOf (length items) c)))
-
 -- How a run of n names spends its draws, however it ends; the draws of each round that started were there. A grouping comes after a round that is reached
 -- and finds a candidate with two weak groups or fewer. 9 and 7 are met by a round that is reached and does not start: 9 after 32 rounds, 7 where fewer
--- draws remain than the round needs, and 7 gives the sum over the rounds that started. 8 and 3 are met in the last round that started, which is reached:
--- its search meets the draw at place p, one of its own, or finds no candidate.
+-- draws remain than the round needs, and 7 gives the sum over the rounds that started. 8 is met at a draw out of range, and at no other. 3 is met in the
+-- last round that started, which is reached: its search finds no candidate.
 abbrev pub Spent : List Float → ℕ → ℕ → List ℕ → Run → Type 0
 Spent book n repeat draws (done s ms read rest) =
     (read ≡ totalOf repeat ms) × (rest ≡ drop read draws)
@@ -179,9 +187,7 @@ Spent book n repeat draws (ended Rounds ms) =
     (length ms ≡ 32) × (totalOf repeat ms ≤ length draws) × (items : List ℕ) × Reached book n repeat draws ms items
 Spent book n repeat draws (ended (Short k) ms) =
     (k ≡ totalOf repeat ms) × (k ≤ length draws) × (items : List ℕ) × Reached book n repeat draws ms items × (length draws < k + needOf repeat (length items))
-Spent book n repeat draws (ended (DrawOutOfRange p) ms) =
-    (before : List ℕ) × (items : List ℕ) × Reached book n repeat draws before items × (ms ≡ before ++ (length items ∷ [])) × (totalOf repeat ms ≤ length draws)
-    × (totalOf repeat before ≤ p) × (p < totalOf repeat before + needOf repeat (length items)) × (searchOf book n repeat draws before items ≡ refused p)
+Spent book n repeat draws (ended (DrawOutOfRange p) ms) = MeetsDraw book n repeat draws p ms
 Spent book n repeat draws (ended ClusteringFailed ms) =
     (before : List ℕ) × (items : List ℕ) × (rest : List ℕ) × Reached book n repeat draws before items × (ms ≡ before ++ (length items ∷ []))
     × (totalOf repeat ms ≤ length draws) × (searchOf book n repeat draws before items ≡ drawn nothing rest)
@@ -192,7 +198,7 @@ pub record Demand3 (book : List Float) (rows cols repeat : ℕ) (draws : List �
       → Counted book rows cols repeat draws l (groupOf book rows cols repeat draws l .answer .read)
   pub short : groupOf book rows cols repeat draws l .answer .refused .number ≡ 7
       → groupOf book rows cols repeat draws l .answer .refused .place ≡ totalOf repeat (roundsOf (runOf book rows repeat draws))
-  pub spent : 2 ≤ rows → rows ≤ 256 → Spent book rows repeat draws (runOf book rows repeat draws)
+  pub spent : 2 ≤ rows → Spent book rows repeat draws (runOf book rows repeat draws)
   -- beside that, of any round, on any items and draws
   pub each : (items : List ℕ) (read : ℕ) (ds : List ℕ) → 2 ≤ length items
       → Takes (needOf repeat (length items)) read ds (bestOf (distAt book rows items) (length items) repeat read ds)

@@ -9,7 +9,7 @@ use native.Mathlib.Omega.{arith}
 use borrow.Author.Tests.{le-ltb, ltb-true, ltb-false, leb-true, leb-false}
 use lib.Dec.{ltb, leb}
 use lib.ListN.{length, take, drop, length-drop, length-take, length-map, take-append-drop}
-use lib.Seq.{drop-drop, getD-drop, length-take-le}
+use lib.Seq.{drop-drop, length-take-le}
 use lib.Ieee.{Float}
 use Rattle.lists.specs.Lists.{numbers}
 use Rattle.lists.proofs.Parts.{part-front}
@@ -24,7 +24,6 @@ use Rattle.base.specs.Base.{baseOf}
 use Rattle.improve.specs.Improve.{weakItems, betterOf}
 use Rattle.rounds.specs.Round.{Run, done, ended, Opening, started, unstarted, ofBest, openingOf, afterOpening, roundOf, needOf, rowsOf, settled, totalOf}
 use Rattle.candidates.proofs.Laws.{best-took, best-behind, Found}
-use Rattle.candidates.proofs.Bad.{best-bad}
 use Rattle.improve.proofs.Merged.{weak-few, weak-many}
 use Rattle.rounds.proofs.Runs.{weakIn, OpeningTook, opening-took, round-kept, round-again}
 
@@ -97,9 +96,8 @@ pub record BadDraw (book : List Float) (n repeats left : ℕ) (rows : List ℕ) 
   pub from : read + totalOf repeats before ≤ p
   pub to : p < read + totalOf repeats ms
   pub enough : totalOf repeats ms ≤ length ds
-  -- it is no number of an item of that round, of which there are two or more
+  -- that round has two items or more
   pub some : 2 ≤ length items
-  pub bad : length items ≤ numbers ds (p - read)
   pub count : length ms ≤ left
   pub few : Few (length rows) ms
 
@@ -322,9 +320,6 @@ module _ (book : List Float) (n repeats left : ℕ) (rows : List ℕ) (read : �
     inner-spends h (ended (DrawOutOfRange p) ms) s =
         let z = draws-more repeats m ms in
         let y = draws-more repeats m (s .before) in
-        let there : numbers rest (p - (read + c)) ≡ numbers ds (p - read) =
-        let g : c + (p - (read + c)) ≡ p - read = omega (arith, s .from) in
-        ap (λ (l : List ℕ). numbers l (p - (read + c))) (T .2) ∙ getD-drop c ds (p - (read + c)) 0 ∙ ap (numbers ds) g in
         record {
           before = m ∷ s .before;
           items = s .items;
@@ -335,7 +330,6 @@ module _ (book : List Float) (n repeats left : ℕ) (rows : List ℕ) (read : �
           to = omega (arith, z, s .to);
           enough = omega (arith, z, s .enough, remains);
           some = s .some;
-          bad = omega (arith, there, s .bad);
           count = omega (arith, s .count);
           few = few-more m (length inner) ms fewer (s .few);
         }
@@ -371,19 +365,19 @@ module _ (book : List Float) (n repeats left : ℕ) (rows : List ℕ) (read : �
   Stops (started base rest) = Unit
   Stops (unstarted s ms) = Spends book n repeats (suc left) rows read ds (ended s ms)
 
-  stops : m ≤ 256 → Stops (openingOf book n repeats rows read ds)
+  stops : Stops (openingOf book n repeats rows read ds)
   unfolding openingOf Stops
-  stops small = by-test (ltb (length ds) c) refl
+  stops = by-test (ltb (length ds) c) refl
     where
       one : totalOf repeats (m ∷ []) ≡ c
       one = draws-one repeats m
 
       of-best : (D : Drawn Best) → bestOf (distAt book n rows) m repeats read ds ≡ D → c ≤ length ds → Ends (λ b l. Found (distAt book n rows) m b × (l ≡ drop c ds) × (c ≤ length ds)) (λ p. (read ≤ p) × (p < read + c)) D
-          → Ends (λ b l. Unit) (λ p. m ≤ numbers ds (p - read)) D → Stops (ofBest m D)
-      of-best (drawn nothing l) q e h b =
+          → Stops (ofBest m D)
+      of-best (drawn nothing l) q e h =
           record { before = []; items = rows; rounds = refl; reached = start; rest = l; cause = at-first ∙ q; count = omega arith; enough = omega (arith, one); few = few-one m }
-      of-best (drawn (found k) l) q e h b = tt
-      of-best (refused p) q e h b =
+      of-best (drawn (found k) l) q e h = tt
+      of-best (refused p) q e h =
           record {
             before = [];
             items = rows;
@@ -394,7 +388,6 @@ module _ (book : List Float) (n repeats left : ℕ) (rows : List ℕ) (read : �
             to = omega (arith, one, h .1);
             enough = omega (arith, one);
             some = some;
-            bad = b;
             count = omega arith;
             few = few-one m;
           }
@@ -417,30 +410,29 @@ module _ (book : List Float) (n repeats left : ℕ) (rows : List ℕ) (read : �
       by-test false e =
           let h : c ≤ length ds = ltb-false (length ds) c e in
           of-best (bestOf (distAt book n rows) m repeats read ds) refl h (best-took (distAt book n rows) m repeats some read ds)
-          (best-bad (distAt book n rows) m repeats some small read ds h)
 
   abbrev Before : Type 0
-  Before = (rows : List ℕ) (read : ℕ) (ds : List ℕ) → 2 ≤ length rows → length rows ≤ 256 → Spends book n repeats left rows read ds (roundOf book n repeats left rows read ds)
+  Before = (rows : List ℕ) (read : ℕ) (ds : List ℕ) → 2 ≤ length rows → Spends book n repeats left rows read ds (roundOf book n repeats left rows read ds)
 
-  started-spends : m ≤ 256 → Before → (base : State) (rest : List ℕ) → openingOf book n repeats rows read ds ≡ started base rest → (t : Bool) → leb (weakIn base) 2 ≡ t
+  started-spends : Before → (base : State) (rest : List ℕ) → openingOf book n repeats rows read ds ≡ started base rest → (t : Bool) → leb (weakIn base) 2 ≡ t
       → Spends book n repeats (suc left) rows read ds
       (cond t (done base (m ∷ []) (read + c) rest) (settled (distAt book n rows) m base (roundOf book n repeats left (rowsOf rows (weakItems base)) (read + c) rest)))
-  started-spends small ih base rest o true e = kept-spends base rest o (leb-true (weakIn base) 2 e)
-  started-spends small ih base rest o false e =
+  started-spends ih base rest o true e = kept-spends base rest o (leb-true (weakIn base) 2 e)
+  started-spends ih base rest o false e =
       let h : 2 < weakIn base = leb-false (weakIn base) 2 e in
       inner-spends base rest o h (roundOf book n repeats left (rowsOf rows (weakItems base)) (read + c) rest)
-      (ih (rowsOf rows (weakItems base)) (read + c) rest (inner-some base rest o h) (omega (arith, fewer base rest o)))
+      (ih (rowsOf rows (weakItems base)) (read + c) rest (inner-some base rest o h))
 
-  step : m ≤ 256 → Before → (o : Opening) → openingOf book n repeats rows read ds ≡ o → Stops o
+  step : Before → (o : Opening) → openingOf book n repeats rows read ds ≡ o → Stops o
       → Spends book n repeats (suc left) rows read ds (afterOpening (roundOf book n repeats left) book n rows (read + c) o)
   unfolding afterOpening Stops
-  step small ih (unstarted s ms) e h = h
-  step small ih (started base rest) e h = started-spends small ih base rest e (leb (weakIn base) 2) refl
+  step ih (unstarted s ms) e h = h
+  step ih (started base rest) e h = started-spends ih base rest e (leb (weakIn base) 2) refl
 
-pub spends : (book : List Float) (n repeats left : ℕ) (rows : List ℕ) (read : ℕ) (ds : List ℕ) → 2 ≤ length rows → length rows ≤ 256
+pub spends : (book : List Float) (n repeats left : ℕ) (rows : List ℕ) (read : ℕ) (ds : List ℕ) → 2 ≤ length rows
     → Spends book n repeats left rows read ds (roundOf book n repeats left rows read ds)
 unfolding roundOf
-spends book n repeats zero rows read ds some small = record { count = refl; enough = omega (arith, draws-none repeats); few = few-none (length rows); items = rows; reached = start }
-spends book n repeats (suc left) rows read ds some small =
-    step book n repeats left rows read ds some small (spends book n repeats left) (openingOf book n repeats rows read ds) refl
-    (stops book n repeats left rows read ds some small)
+spends book n repeats zero rows read ds some = record { count = refl; enough = omega (arith, draws-none repeats); few = few-none (length rows); items = rows; reached = start }
+spends book n repeats (suc left) rows read ds some =
+    step book n repeats left rows read ds some (spends book n repeats left) (openingOf book n repeats rows read ds) refl
+    (stops book n repeats left rows read ds some)

@@ -19,9 +19,13 @@ centresOf q m t zero ws cs at ds = drawn cs ds
 centresOf q m t (suc j) ws cs at ds =
     andThen (nextOf q m t ws at ds) (λ b rest. centresOf q m t j (listed (with q (cells ws) (b .pick)) m) (cs ++ (b .pick ∷ [])) (at + t) rest)
 
--- the centres and the draws that remain, or the place of a draw out of range; `at` is the place of the first draw
+-- of k centres the first and j more, and the draws that remain, or the place of a draw out of range; `at` is the place of the first draw
+abbrev pub firstCentres : (ℕ → ℕ → Float) → ℕ → ℕ → ℕ → ℕ → List ℕ → Drawn (List ℕ)
+firstCentres q m k j at ds = andThen (indexDraw m at ds) (λ c rest. centresOf q m (trialsOf k) j (listed (q c) m) (c ∷ []) (at + 1) rest)
+
+-- all of them
 unfoldable pub seeding : (ℕ → ℕ → Float) → ℕ → ℕ → ℕ → List ℕ → Drawn (List ℕ)
-seeding q m k at ds = andThen (indexDraw m at ds) (λ c rest. centresOf q m (trialsOf k) (k - 1) (listed (q c) m) (c ∷ []) (at + 1) rest)
+seeding q m k at ds = firstCentres q m k (k - 1) at ds
 
 -- the weights after the search for a centre; where a draw was out of range only their number is known
 abbrev pub Weights : (ℕ → ℕ → Float) → ℕ → List Float → Drawn Trial → List Float → Type 0

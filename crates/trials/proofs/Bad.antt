@@ -1,31 +1,32 @@
--- A draw that ends the search for a centre is not below m, where there are draws enough.
+-- A draw that ends the search for a centre is not below 2 ^ 53 where the total is above 0, and else not below m, where there are draws enough.
 use Prim.Native.Nat.{ℕ, _+_, _-_, _<_, _≤_}
-use mathlib.Core.Path.{_≡_, ap, _∙_}
-use mathlib.Core.Bool.{Bool, true, false, cond}
+use mathlib.Core.Bool.{cond}
 use mathlib.Core.List.{List}
 use native.Mathlib.Omega.{arith}
-use lib.ListN.{length, drop, length-drop}
+use lib.ListN.{length, drop}
 use lib.Ieee.{Float, lt}
 use Rattle.lists.specs.Lists.{cells}
 use Rattle.lists.specs.Sums.{zero64, sumTo}
 use Rattle.draws.specs.Draws.{takes, one, shares}
-use Rattle.draws.proofs.Taken.{one-took}
-use Rattle.draws.proofs.Bad.{EndsBad, takes-bad, then-bad}
-use Rattle.trials.specs.Trials.{limit, trial, against, bestOf, nextOf}
-use Rattle.trials.proofs.Centring.{limit-some}
+use Rattle.draws.proofs.Bad.{Reads, Above, reads-map, then-reads, takes-bad}
+use Rattle.trials.specs.Trials.{trial, against, bestOf, nextOf}
 
--- a share draw or an index draw: its limit is m or more
-limit-least : (x : Bool) (m : ℕ) → m ≤ 256 → m ≤ cond x shares m
-limit-least true m few = omega arith
-limit-least false m few = omega arith
+-- what the draws must be below
+abbrev pub limitBy : Float → ℕ → ℕ
+limitBy total m = cond (lt zero64 total) shares m
 
-pub next-bad : (q : ℕ → ℕ → Float) (m t : ℕ) → 0 < m → m ≤ 256 → 0 < t → (ws : List Float) (at : ℕ) (ds : List ℕ) → t ≤ length ds → EndsBad m at ds (nextOf q m t ws at ds)
+pub next-bad : (q : ℕ → ℕ → Float) (m t : ℕ) → 0 < t → (ws : List Float) (draws : List ℕ) (at : ℕ) → at + t ≤ length draws
+    → Reads draws (at + t) (Above (limitBy (sumTo (cells ws) m) m) at t draws) (nextOf q m t ws at (drop at draws))
 unfolding bestOf
-next-bad q m t z few some ws at ds l =
+next-bad q m t some ws draws at l =
     let total = sumTo (cells ws) m in
-    let least = limit-least (lt zero64 total) m few in
-    then-bad (λ d rest. (d < limit total m) × (rest ≡ drop 1 ds) × (1 ≤ length ds)) (λ p. (at ≤ p) × (p < at + 1)) m at 1 ds
-    (one (limit total m) at ds) (λ d rest. takes (limit total m) (against q (cells ws) total m) (t - 1) (trial q (cells ws) total m d) (at + 1) rest)
-    (one-took (limit total m) at ds (limit-some total m z))
-    (takes-bad (limit total m) m (λ s d. d) least 1 0 at ds (omega arith))
-    (λ d rest h. (h .1, takes-bad (limit total m) m (against q (cells ws) total m) least (t - 1) (trial q (cells ws) total m d) (at + 1) rest (omega (arith, ap length (h .1) ∙ length-drop 1 ds))))
+    let most = limitBy total m in
+    then-reads draws (at + 1) (at + t) (Above most at 1 draws) (Above most at t draws)
+    (one most at (drop at draws)) (λ d rest. takes most (against q (cells ws) total m) (t - 1) (trial q (cells ws) total m d) (at + 1) rest)
+    (takes-bad most (λ s d. d) draws 1 0 at (omega arith))
+    (λ d e.
+    reads-map draws (at + 1 + (t - 1)) (at + t) (Above most (at + 1) (t - 1) draws) (Above most at t draws)
+    (takes most (against q (cells ws) total m) (t - 1) (trial q (cells ws) total m d) (at + 1) (drop (at + 1) draws))
+    (takes-bad most (against q (cells ws) total m) draws (t - 1) (trial q (cells ws) total m d) (at + 1) (omega arith))
+    (omega arith) (λ p b. (omega (arith, b .0), omega (arith, b .1), b .2)))
+    (λ p b. (b .0, omega (arith, b .1), b .2))
