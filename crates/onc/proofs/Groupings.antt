@@ -7,6 +7,7 @@ use mathlib.Core.Logic.{by-cases}
 use native.Mathlib.Omega.{arith}
 use native.Mathlib.Decide.{decLt}
 use lib.ListN.{length, drop, List·getD-eq-default}
+use lib.Seq.{drop-drop}
 use lib.Ieee.{Float, nan}
 use Rattle.lists.specs.Lists.{listed, numbers, cellAt, flat, grid}
 use Rattle.lists.proofs.Listed.{length-listed, getD-listed}
@@ -16,16 +17,19 @@ use Rattle.draws.specs.Draws.{Drawn, drawn, refused}
 use Rattle.draws.specs.declared.Stop.the-variants.{Rounds, Short, DrawOutOfRange, ClusteringFailed}
 use Rattle.partition.specs.Partition.{Partition, State, has, joined, groupAt}
 use Rattle.partition.specs.Orders.{sizesOf}
+use Rattle.draws.proofs.Taken.{Ends}
 use Rattle.draws.proofs.Bad.{Reads}
-use Rattle.candidates.specs.Candidates.{Best, found, bestOf}
+use Rattle.candidates.specs.Candidates.{Best, nothing, found, bestOf}
 use Rattle.candidates.specs.Ranges.{RoundOutOfRange}
+use Rattle.candidates.proofs.Laws.{Found, best-took}
 use Rattle.candidates.proofs.Bad.{best-bad}
+use Rattle.candidates.proofs.Failed.{best-none}
 use Rattle.rounds.specs.Round.{Run, done, ended, roundOf, needOf, totalOf}
 use Rattle.partition.proofs.Cuts.{cut-joined, groups-few}
 use Rattle.rounds.proofs.Runs.{Whole, whole}
-use Rattle.rounds.proofs.Spends.{ReachedFrom, start, further, BadDraw, Spends, spends, searchOf as searchFrom, draws-none, draws-more, draws-one}
+use Rattle.rounds.proofs.Spends.{ReachedFrom, start, further, BadDraw, NoCandidate, Spends, spends, searchOf as searchFrom, draws-none, draws-more, draws-one}
 use Rattle.onc.specs.Onc.{Lists, Outcome, runOf, finalOf, ran, groupOf}
-use Rattle.onc.specs.Demands.{Within, GroupingOf, searchOf, Reached, first, next, MeetsDraw, EndsWith, Demand2}
+use Rattle.onc.specs.Demands.{Within, GroupingOf, searchOf, Reached, first, next, MeetsDraw, MeetsNone, EndsWith, Demand2}
 use Rattle.onc.proofs.Calls.{within-ran}
 
 -- the rows of the first round
@@ -90,10 +94,23 @@ module _ (book : List Float) (n repeat : ℕ) (draws : List ℕ) where
       let z : totalOf repeat before ≡ 0 + totalOf repeat before = omega arith in
       ap (λ (i : ℕ). bestOf (distAt book n items) (length items) repeat i (drop (totalOf repeat before) draws)) z ∙ h
 
+  -- it takes exactly its count of draws
+  pub search-rest : (before items : List ℕ) (b : Best) (rest : List ℕ) → 2 ≤ length items → searchOf book n repeat draws before items ≡ drawn b rest
+      → searchOf book n repeat draws before items ≡ drawn b (drop (totalOf repeat before + needOf repeat (length items)) draws)
+  search-rest before items b rest two e =
+      let at = totalOf repeat before in
+      let count = needOf repeat (length items) in
+      let took =
+      subst
+      (Ends (λ u r. Found (distAt book n items) (length items) u × (r ≡ drop count (drop at draws)) × (count ≤ length (drop at draws))) (λ p. (at ≤ p) × (p < at + count)))
+      e (best-took (distAt book n items) (length items) repeat two at (drop at draws)) in
+      e ∙ ap (λ (r : List ℕ). drawn b r) (took .1 ∙ drop-drop count at draws)
+
   -- a round that is reached from the first
   pub reached-same : {before items : List ℕ} → ReachedFrom book n repeat (all n) 0 draws before items → Reached book n repeat draws before items
   reached-same start = first
-  reached-same (further before items k rest l q w) = next before items k rest (reached-same l) (search-same before items (drawn (found k) rest) q) w
+  reached-same (further before items k rest two l q w) =
+      next before items k (reached-same l) (search-rest before items (found k) rest two (search-same before items (drawn (found k) rest) q)) w
 
   -- a draw that ends the run is out of range
   pub meets-draw : (p : ℕ) (ms : List ℕ) → BadDraw book n repeat 32 (all n) 0 draws p ms → MeetsDraw book n repeat draws p ms
@@ -116,6 +133,21 @@ module _ (book : List Float) (n repeat : ℕ) (draws : List ℕ) where
             (best-bad (distAt book n (k .items)) m repeat draws at (omega (arith, e, k .enough))),
       )
 
+  -- a run that finds no candidate has none with a t-stat that is a number
+  pub meets-none : (ms : List ℕ) → NoCandidate book n repeat 32 (all n) 0 draws ms → MeetsNone book n repeat draws ms
+  meets-none ms k =
+      let at = totalOf repeat (k .before) in
+      let met : searchOf book n repeat draws (k .before) (k .items) ≡ drawn nothing (k .rest) = search-same (k .before) (k .items) (drawn nothing (k .rest)) (k .cause) in (
+        k .before,
+        k .items,
+        reached-same (k .reached),
+        k .rounds,
+        k .some,
+        k .enough,
+        search-rest (k .before) (k .items) nothing (k .rest) (k .some) met,
+        best-none (distAt book n (k .items)) (length (k .items)) repeat (k .some) at (drop at draws) (k .rest) met,
+      )
+
   of-enough : 32 * needOf repeat n ≤ length draws → (r : Run) → Spends book n repeat 32 (all n) 0 draws r → EndsWith book n repeat draws r
   of-enough h (done s ms read rest) k = tt
   of-enough h (ended Rounds ms) k = k .count
@@ -124,7 +156,7 @@ module _ (book : List Float) (n repeat : ℕ) (draws : List ℕ) where
       let y : ⊥ = omega (arith, k .least, ap (λ (c : ℕ). 32 * c) e) in
       y
   of-enough h (ended (DrawOutOfRange p) ms) k = meets-draw p ms k
-  of-enough h (ended ClusteringFailed ms) k = tt
+  of-enough h (ended ClusteringFailed ms) k = meets-none ms k
 
 -- the number of a call, from how its run ends
 not-seven : (book : List Float) (n repeat : ℕ) (draws : List ℕ) (r : Run) → EndsWith book n repeat draws r → has (0 ∷ 9 ∷ 8 ∷ 3 ∷ []) (finalOf r .refused .number) ≡ true

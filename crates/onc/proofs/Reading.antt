@@ -10,20 +10,17 @@ use lib.ListN.{length, take, drop}
 use lib.Ieee.{Float}
 use Rattle.lists.proofs.Tests.{impossible}
 use Rattle.refusals.specs.Table.{Refusal}
-use Rattle.distance.specs.Distance.{distAt}
-use Rattle.draws.specs.Draws.{Drawn, drawn, refused}
+use Rattle.draws.specs.Draws.{drawn}
 use Rattle.draws.specs.declared.Stop.the-variants.{Rounds, Short, DrawOutOfRange, ClusteringFailed}
-use Rattle.draws.proofs.Taken.{Ends}
 use Rattle.partition.specs.Partition.{State}
-use Rattle.candidates.specs.Candidates.{Best, nothing, found, bestOf}
+use Rattle.candidates.specs.Candidates.{found}
 use Rattle.rounds.specs.Round.{Run, done, ended, needOf, totalOf}
-use Rattle.candidates.proofs.Laws.{Found, best-took}
 use Rattle.rounds.proofs.Spends.{Spends}
 use Rattle.onc.specs.Onc.{Lists, Outcome, shape, runOf, finalOf, ran, groupOf}
-use Rattle.onc.specs.Demands.{Cause, no-repeat, not-square, few-rows, many-rows, many-repeats, cell-count, list-length, outputs, roundsOf, AsLong, Counted, Takes, Spent, Demand3}
+use Rattle.onc.specs.Demands.{Cause, no-repeat, not-square, few-rows, many-rows, many-repeats, cell-count, list-length, outputs, roundsOf, AsLong, Counted, Spent, Demand3}
 use Rattle.onc.proofs.Shapes.{shape-cause, shape-within, shape-same}
 use Rattle.onc.proofs.Calls.{call-ran, by-call}
-use Rattle.onc.proofs.Groupings.{all, all-length, run-spends, search-same, reached-same, meets-draw}
+use Rattle.onc.proofs.Groupings.{all, all-length, run-spends, search-same, reached-same, meets-draw, meets-none}
 
 -- no refusal before the run has the number 0 or 7
 not-seven : {book : List Float} {rows cols repeat : ℕ} {l : Lists} {k : ℕ} → Cause book rows cols repeat l k → k ≡ 7 → ⊥
@@ -58,8 +55,7 @@ module _ (book : List Float) (rows repeat : ℕ) (draws : List ℕ) where
       let count : p ≡ totalOf repeat ms = omega (arith, k .place) in
       (count, omega (arith, count, k .enough), k .items, reached-same book rows repeat draws (k .reached), omega (arith, count, k .short))
   of-spends (ended (DrawOutOfRange p) ms) k = meets-draw book rows repeat draws p ms k
-  of-spends (ended ClusteringFailed ms) k =
-      (k .before, k .items, k .rest, reached-same book rows repeat draws (k .reached), k .rounds, k .enough, search-same book rows repeat draws (k .before) (k .items) (drawn nothing (k .rest)) (k .cause))
+  of-spends (ended ClusteringFailed ms) k = meets-none book rows repeat draws ms k
 
   -- the place of 7
   of-short : (r : Run) → Spends book rows repeat 32 (all rows) 0 draws r → finalOf r .refused .number ≡ 7 → finalOf r .refused .place ≡ totalOf repeat (roundsOf r)
@@ -101,12 +97,6 @@ module _ (book : List Float) (rows repeat : ℕ) (draws : List ℕ) where
     of-grouped (ended (DrawOutOfRange p) ms) e k h = let y : ⊥ = omega arith in absurd y
     of-grouped (ended ClusteringFailed ms) e k h = let y : ⊥ = omega arith in absurd y
 
--- what one round takes
-of-best : (x : ℕ → ℕ → Float) (m count read : ℕ) (ds : List ℕ) (D : Drawn Best)
-    → Ends (λ b rest. Found x m b × (rest ≡ drop count ds) × (count ≤ length ds)) (λ p. (read ≤ p) × (p < read + count)) D → Takes count read ds D
-of-best x m count read ds (drawn b rest) h = (h .1, h .2)
-of-best x m count read ds (refused p) h = h
-
 pub third : (book : List Float) (rows cols repeat : ℕ) (draws : List ℕ) (l : Lists) → Demand3 book rows cols repeat draws l
 third book rows cols repeat draws l =
     record {
@@ -117,9 +107,6 @@ third book rows cols repeat draws l =
           (λ e. let w = shape-within book rows cols repeat l e .1 in of-short book rows repeat draws r (took (w .two)))
           (λ e h. absurd (not-seven (shape-cause book rows cols repeat l e) h));
       spent = λ two. of-spends book rows repeat draws r (took two);
-      each = λ items read ds two.
-          of-best (distAt book rows items) (length items) (needOf repeat (length items)) read ds (bestOf (distAt book rows items) (length items) repeat read ds)
-          (best-took (distAt book rows items) (length items) repeat two read ds);
     }
   where
     r : Run

@@ -15,6 +15,7 @@ use Rattle.partition.specs.Partition.{Partition, State, has, joined}
 use Rattle.partition.specs.Orders.{cut}
 use Rattle.candidates.specs.Candidates.{Candidate, Best, nothing, found, bestOf}
 use Rattle.candidates.specs.Ranges.{RoundOutOfRange}
+use Rattle.candidates.specs.Failed.{NoStats}
 use Rattle.quality.specs.Quality.{qualitiesOf, weakCount}
 use Rattle.base.specs.Base.{baseOf}
 use Rattle.improve.specs.Improve.{weakItems}
@@ -113,8 +114,8 @@ searchOf book n repeat draws before items = bestOf (distAt book n items) (length
 -- and each later one over the items of the weak groups of the base before it, of which there are more than two
 pub data Reached (book : List Float) (n repeat : ℕ) (draws : List ℕ) : List ℕ → List ℕ → Type 0 where
   first : Reached book n repeat draws [] (listed (λ i. i) n)
-  next : (before items : List ℕ) (c : Candidate) (rest : List ℕ) → Reached book n repeat draws before items
-      → searchOf book n repeat draws before items ≡ drawn (found c) rest
+  next : (before items : List ℕ) (c : Candidate) → Reached book n repeat draws before items
+      → searchOf book n repeat draws before items ≡ drawn (found c) (drop (totalOf repeat before + needOf repeat (length items)) draws)
       → 2 < weakCount (qualitiesOf (c .scores) (baseOf (length items) c .groups))
       → Reached book n repeat draws (before ++ (length items ∷ [])) (rowsOf items (weakItems (baseOf (length items) c)))
 
@@ -126,13 +127,21 @@ MeetsDraw book n repeat draws p ms =
     × (totalOf repeat ms ≤ length draws) × (p < length draws) × (totalOf repeat before ≤ p) × (p < totalOf repeat before + needOf repeat (length items))
     × (searchOf book n repeat draws before items ≡ refused p) × RoundOutOfRange (distAt book n items) (length items) repeat (totalOf repeat before) draws p
 
--- how a run with enough draws ends: in a grouping; or by 9, after 32 rounds; by 8, at a draw out of range; or by 3. Not by 7.
+-- how 3 is met: in the last round that started, which is reached, has two items or more, and takes exactly its count of draws. Its search finds no
+-- candidate, since in no repeat and for no number of groups is there one whose t-stat is a number.
+abbrev pub MeetsNone : List Float → ℕ → ℕ → List ℕ → List ℕ → Type 0
+MeetsNone book n repeat draws ms =
+    (before : List ℕ) × (items : List ℕ) × Reached book n repeat draws before items × (ms ≡ before ++ (length items ∷ [])) × (2 ≤ length items)
+    × (totalOf repeat ms ≤ length draws) × (searchOf book n repeat draws before items ≡ drawn nothing (drop (totalOf repeat before + needOf repeat (length items)) draws))
+    × NoStats (distAt book n items) (length items) repeat (totalOf repeat before) (drop (totalOf repeat before) draws)
+
+-- how a run with enough draws ends: in a grouping; or by 9, after 32 rounds; by 8, at a draw out of range; or by 3, without a candidate. Not by 7.
 abbrev pub EndsWith : List Float → ℕ → ℕ → List ℕ → Run → Type 0
 EndsWith book n repeat draws (done s ms read rest) = Unit
 EndsWith book n repeat draws (ended Rounds ms) = length ms ≡ 32
 EndsWith book n repeat draws (ended (Short k) ms) = ⊥
 EndsWith book n repeat draws (ended (DrawOutOfRange p) ms) = MeetsDraw book n repeat draws p ms
-EndsWith book n repeat draws (ended ClusteringFailed ms) = Unit
+EndsWith book n repeat draws (ended ClusteringFailed ms) = MeetsNone book n repeat draws ms
 
 -- Demand 2. Within the limits a call answers and leaves exactly what the run of the definition gives. A list of 32 times the first round's count is
 -- enough draws, and then 7 is not answered. Where the run ends in a partition, so does the call, and nowhere else.
@@ -168,16 +177,10 @@ pub record Counted (book : List Float) (rows cols repeat : ℕ) (draws : List �
   pub same : (draws′ : List ℕ) (l′ : Lists) → AsLong l l′ → take count draws′ ≡ take count draws
       → outputs (groupOf book rows cols repeat draws′ l′) ≡ outputs (groupOf book rows cols repeat draws l)
 
--- what a round that starts with the draws ds, `read` draws having been read, takes of them: exactly `count`, and the others remain; or it meets one of
--- those that is out of range
-abbrev pub Takes : ℕ → ℕ → List ℕ → Drawn Best → Type 0
-Takes count read ds (drawn b rest) = (rest ≡ drop count ds) × (count ≤ length ds)
-Takes count read ds (refused p) = (read ≤ p) × (p < read + count)
-
 -- How a run of n names spends its draws, however it ends; the draws of each round that started were there. A grouping comes after a round that is reached
 -- and finds a candidate with two weak groups or fewer. 9 and 7 are met by a round that is reached and does not start: 9 after 32 rounds, 7 where fewer
--- draws remain than the round needs, and 7 gives the sum over the rounds that started. 8 is met at a draw out of range, and at no other. 3 is met in the
--- last round that started, which is reached: its search finds no candidate.
+-- draws remain than the round needs, and 7 gives the sum over the rounds that started. 8 is met at a draw out of range, and at no other, and 3 where
+-- no candidate has a t-stat that is a number.
 abbrev pub Spent : List Float → ℕ → ℕ → List ℕ → Run → Type 0
 Spent book n repeat draws (done s ms read rest) =
     (read ≡ totalOf repeat ms) × (rest ≡ drop read draws)
@@ -188,9 +191,7 @@ Spent book n repeat draws (ended Rounds ms) =
 Spent book n repeat draws (ended (Short k) ms) =
     (k ≡ totalOf repeat ms) × (k ≤ length draws) × (items : List ℕ) × Reached book n repeat draws ms items × (length draws < k + needOf repeat (length items))
 Spent book n repeat draws (ended (DrawOutOfRange p) ms) = MeetsDraw book n repeat draws p ms
-Spent book n repeat draws (ended ClusteringFailed ms) =
-    (before : List ℕ) × (items : List ℕ) × (rest : List ℕ) × Reached book n repeat draws before items × (ms ≡ before ++ (length items ∷ []))
-    × (totalOf repeat ms ≤ length draws) × (searchOf book n repeat draws before items ≡ drawn nothing rest)
+Spent book n repeat draws (ended ClusteringFailed ms) = MeetsNone book n repeat draws ms
 
 -- Demand 3: how many draws a call reads, and that no others matter.
 pub record Demand3 (book : List Float) (rows cols repeat : ℕ) (draws : List ℕ) (l : Lists) : Type 0 where
@@ -199,9 +200,6 @@ pub record Demand3 (book : List Float) (rows cols repeat : ℕ) (draws : List �
   pub short : groupOf book rows cols repeat draws l .answer .refused .number ≡ 7
       → groupOf book rows cols repeat draws l .answer .refused .place ≡ totalOf repeat (roundsOf (runOf book rows repeat draws))
   pub spent : 2 ≤ rows → Spent book rows repeat draws (runOf book rows repeat draws)
-  -- beside that, of any round, on any items and draws
-  pub each : (items : List ℕ) (read : ℕ) (ds : List ℕ) → 2 ≤ length items
-      → Takes (needOf repeat (length items)) read ds (bestOf (distAt book rows items) (length items) repeat read ds)
 
 -- the three demands, of every call
 pub record Demands : Type 0 where

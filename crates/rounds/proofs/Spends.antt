@@ -40,7 +40,7 @@ searchOf book n repeats read ds before items =
 -- round between is over the items of the weak groups of the base before it, of which there are more than two
 pub data ReachedFrom (book : List Float) (n repeats : ℕ) (rows : List ℕ) (read : ℕ) (ds : List ℕ) : List ℕ → List ℕ → Type 0 where
   start : ReachedFrom book n repeats rows read ds [] rows
-  further : (before items : List ℕ) (k : Candidate) (rest : List ℕ) → ReachedFrom book n repeats rows read ds before items
+  further : (before items : List ℕ) (k : Candidate) (rest : List ℕ) → 2 ≤ length items → ReachedFrom book n repeats rows read ds before items
       → searchOf book n repeats read ds before items ≡ drawn (found k) rest → 2 < weakIn (baseOf (length items) k)
       → ReachedFrom book n repeats rows read ds (before ++ (length items ∷ [])) (rowsOf items (weakItems (baseOf (length items) k)))
 
@@ -118,6 +118,8 @@ pub record NoCandidate (book : List Float) (n repeats left : ℕ) (rows : List �
   -- the last round's search found none
   pub rest : List ℕ
   pub cause : searchOf book n repeats read ds before items ≡ drawn nothing rest
+  -- that round has two items or more
+  pub some : 2 ≤ length items
   pub count : length ms ≤ left
   pub enough : totalOf repeats ms ≤ length ds
   pub few : Few (length rows) ms
@@ -277,9 +279,9 @@ module _ (book : List Float) (n repeats left : ℕ) (rows : List ℕ) (read : �
         → ReachedFrom book n repeats rows read ds (m ∷ before) items
     inner-reached h start =
         subst (λ (b : State). ReachedFrom book n repeats rows read ds (m ∷ []) (rowsOf rows (weakItems b))) (source .2)
-        (further [] rows (source .0) rest start (at-first ∙ source .1) (subst (λ (b : State). 2 < weakIn b) (sym (source .2)) h))
-    inner-reached h (further before items k r l q w) =
-        further (m ∷ before) items k r (inner-reached h l) (inner-cause before items (drawn (found k) r) q) w
+        (further [] rows (source .0) rest some start (at-first ∙ source .1) (subst (λ (b : State). 2 < weakIn b) (sym (source .2)) h))
+    inner-reached h (further before items k r two l q w) =
+        further (m ∷ before) items k r two (inner-reached h l) (inner-cause before items (drawn (found k) r) q) w
 
     -- the claim of the round within, carried out
     inner-spends : 2 < weakIn base → (r : Run) → Spends book n repeats left inner (read + c) rest r
@@ -300,6 +302,7 @@ module _ (book : List Float) (n repeats left : ℕ) (rows : List ℕ) (read : �
           reached = inner-reached h (s .reached);
           rest = s .rest;
           cause = inner-cause (s .before) (s .items) (drawn nothing (s .rest)) (s .cause);
+          some = s .some;
           count = omega (arith, s .count);
           enough = omega (arith, draws-more repeats m ms, s .enough, remains);
           few = few-more m (length inner) ms fewer (s .few);
@@ -375,7 +378,7 @@ module _ (book : List Float) (n repeats left : ℕ) (rows : List ℕ) (read : �
       of-best : (D : Drawn Best) → bestOf (distAt book n rows) m repeats read ds ≡ D → c ≤ length ds → Ends (λ b l. Found (distAt book n rows) m b × (l ≡ drop c ds) × (c ≤ length ds)) (λ p. (read ≤ p) × (p < read + c)) D
           → Stops (ofBest m D)
       of-best (drawn nothing l) q e h =
-          record { before = []; items = rows; rounds = refl; reached = start; rest = l; cause = at-first ∙ q; count = omega arith; enough = omega (arith, one); few = few-one m }
+          record { before = []; items = rows; rounds = refl; reached = start; rest = l; cause = at-first ∙ q; some = some; count = omega arith; enough = omega (arith, one); few = few-one m }
       of-best (drawn (found k) l) q e h = tt
       of-best (refused p) q e h =
           record {

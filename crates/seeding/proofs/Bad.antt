@@ -15,13 +15,13 @@ use Rattle.draws.specs.Draws.{drawn, one}
 use Rattle.draws.proofs.Counting.{trials-some}
 use Rattle.draws.proofs.Bad.{Reads, Above, reads-map, then-reads, takes-bad}
 use Rattle.trials.specs.declared.Trial.{Trial}
-use Rattle.trials.specs.Trials.{lesser, with, nextOf}
+use Rattle.trials.specs.Trials.{lesserNumber, with, nextOf}
 use Rattle.trials.proofs.Bad.{limitBy, next-bad}
 use Rattle.seeding.specs.Seeding.{centresOf, firstCentres, seeding}
 use Rattle.seeding.specs.Ranges.{weightTo, OutOfRange, first, trial}
 
 -- a NaN gives way
-lesser-nan : (x : Float) → lesser nan x ≡ x
+lesser-nan : (x : Float) → lesserNumber nan x ≡ x
 unfolding lt isNan
 lesser-nan nan = refl
 lesser-nan (inf s) = refl
@@ -36,8 +36,8 @@ module _ (q : ℕ → ℕ → Float) (m : ℕ) where
   weights-more ws cs c e =
       listed-same nan (with q (cells ws) c) (weightTo q (cs ++ (c ∷ []))) m
       (λ i h.
-      ap (λ (w : Float). lesser w (q c i)) (ap (λ (l : List Float). cells l i) e ∙ getD-listed (weightTo q cs) m i nan h)
-      ∙ sym (foldl-append (λ w p. lesser w (q p i)) nan cs (c ∷ [])))
+      ap (λ (w : Float). lesserNumber w (q c i)) (ap (λ (l : List Float). cells l i) e ∙ getD-listed (weightTo q cs) m i nan h)
+      ∙ sym (foldl-append (λ w p. lesserNumber w (q p i)) nan cs (c ∷ [])))
 
   total-is : (ws : List Float) (cs : List ℕ) → ws ≡ listed (weightTo q cs) m → sumTo (cells ws) m ≡ sumTo (weightTo q cs) m
   total-is ws cs e = sum-same (cells ws) (weightTo q cs) m (λ i h. ap (λ (l : List Float). cells l i) e ∙ getD-listed (weightTo q cs) m i nan h)

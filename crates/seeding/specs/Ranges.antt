@@ -9,12 +9,12 @@ use Rattle.lists.specs.Lists.{numbers}
 use Rattle.lists.specs.Sums.{zero64, sumTo}
 use Rattle.draws.specs.Counts.{trialsOf}
 use Rattle.draws.specs.Draws.{drawn}
-use Rattle.trials.specs.Trials.{lesser}
+use Rattle.trials.specs.Trials.{lesserNumber}
 use Rattle.seeding.specs.Seeding.{firstCentres}
 
 -- item i's weight: its least squared distance to one of the centres cs, a NaN giving way to a number
 abbrev pub weightTo : (ℕ → ℕ → Float) → List ℕ → ℕ → Float
-weightTo q cs i = foldl (λ w c. lesser w (q c i)) nan cs
+weightTo q cs i = foldl (λ w c. lesserNumber w (q c i)) nan cs
 
 -- The draw at a place of `draws` is out of range for the seeding of k centres, among m items, that starts at place `at` and comes to read it. Its first
 -- draw is an index. The draws for a further centre, one for each trial, are shares if the total weight, with the centres cs chosen before, is above 0, and
