@@ -7,7 +7,7 @@ use native.Mathlib.Nat.{add-zero, add-suc, suc-add, ne-of-lt}
 use native.Mathlib.Omega.{arith}
 use lib.ListN.{length, set, getD, take, length-append}
 use lib.Seq.{sets, set-comm, length-sets, take-suc, take-length}
-use Rattle.digits.specs.Digits.{glyph, digits, widthOf, numeral}
+use Rattle.digits.specs.Digits.{digitByte, digits, widthOf, numeral}
 use Rattle.digits.proofs.Numerals.{length-digits}
 use Rattle.answer_text.specs.Stores.{Wrote}
 
@@ -54,12 +54,12 @@ pub bytes-all : {d d₁ : List ℕ} {p : ℕ} (w : List ℕ) (i : ℕ) → Wrote
 bytes-all {d} {d₁} {p} w i h e = rw (take-length w) at (rw e at h)
 
 -- the loop that stores digits from the last one on: one is stored, the rest is to do
-pub digit-stored : (b i rest p : ℕ) (l : List ℕ) {g : ℕ} → 0 < i → g ≡ glyph (rest % b)
+pub digit-stored : (b i rest p : ℕ) (l : List ℕ) {g : ℕ} → 0 < i → g ≡ digitByte (rest % b)
     → sets l p (digits b i rest) ≡ sets (set l (p + (i - 1)) g) p (digits b (i - 1) (rest / b))
 unfolding digits
 digit-stored b zero rest p l h e = absurd (omega arith)
 digit-stored b (suc i) rest p l h e =
-    rw (sub-one, e) (sets-last l p (digits b i (rest / b)) (glyph (rest % b)) ∙ rw (length-digits b i (rest / b)))
+    rw (sub-one, e) (sets-last l p (digits b i (rest / b)) (digitByte (rest % b)) ∙ rw (length-digits b i (rest / b)))
 
 pub no-digits : (b x p : ℕ) (l : List ℕ) → sets l p (digits b 0 x) ≡ l
 unfolding digits

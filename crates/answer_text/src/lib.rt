@@ -69,7 +69,7 @@ fn put_digits(out: &mut [u8], at: usize, x: u64, base: u64, k: usize)
     let mut rest = x;
     while i > 0 {
         i -= 1;
-        out[at + i] = digits::glyph(rest % base);
+        out[at + i] = digits::digit_byte(rest % base);
         rest = rest / base;
     }
 }

@@ -9,7 +9,7 @@ use Rattle.seeding.specs.Seeding.{seeding}
 use Rattle.lloyd.specs.declared.Ended.{Ended}
 use Rattle.lloyd.specs.Passes.{lloydLabels, lloydEnded}
 
--- the label of each item, and whether the passes came to rest or were cut
+-- the label of each item, and whether the passes converged or met the limit
 pub record Grouped : Type 0 where
   pub labels : List ℕ
   pub ended : Ended

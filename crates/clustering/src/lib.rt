@@ -13,7 +13,7 @@ use draws::Stop;
 use lloyd::Ended;
 use seeding::Seeded;
 
-// The place of the next draw, and whether the passes came to rest; or what ends the run.
+// The place of the next draw, and whether the passes converged; or what ends the run.
 pub enum Clustered {
     Done(usize, Ended),
     Stopped(Stop),

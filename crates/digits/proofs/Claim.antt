@@ -4,7 +4,7 @@ use mathlib.Core.Path.{_≡_, refl, sym, ap, _∙_}
 use mathlib.Core.List.{List, [], _∷_, append-nil}
 use native.Mathlib.Omega.{arith}
 use lib.ListN.{length}
-use Rattle.digits.specs.Digits.{byteAt, digitOf, glyph, spelled, digits, placesTo, widthOf, numeral}
+use Rattle.digits.specs.Digits.{byteAt, digitOf, digitByte, spelled, digits, placesTo, widthOf, numeral}
 use Rattle.digits.specs.Claim.{DigitsClaim}
 use Rattle.digits.proofs.Numerals.{length-digits}
 use Rattle.digits.proofs.RoundTrip.{digits-at, spelled-back}
@@ -37,7 +37,7 @@ ten-spells x h =
     (spelled-alone 10 (omega arith) (omega arith) (placesTo 20 x) x (places-hold 20 x h))
 
 ten-zero : numeral 10 0 ≡ 48 ∷ []
-unfolding digits glyph placesTo widthOf
+unfolding digits digitByte placesTo widthOf
 ten-zero = refl
 
 ten-first : (x : ℕ) → 0 < x → x < 10 ^ 20 → byteAt (numeral 10 x) 0 ≡ 48 → ⊥

@@ -8,9 +8,9 @@ use native.Mathlib.Decide.{decLt, ℕ-discrete}
 use native.Mathlib.Omega.{arith}
 use borrow.Author.Tests.{lt-ltb, le-ltb}
 use lib.ListN.{getD, List·getD-append}
-use Rattle.digits.specs.Digits.{byteAt, digitOf, glyph, spelled, digits, placesTo, widthOf}
+use Rattle.digits.specs.Digits.{byteAt, digitOf, digitByte, spelled, digits, placesTo, widthOf}
 use Rattle.digits.proofs.Numerals.{length-digits}
-use Rattle.digits.proofs.RoundTrip.{digit-glyph}
+use Rattle.digits.proofs.RoundTrip.{digit-digit-byte}
 
 ten-more : (v m : ℕ) → v / 10 < 10 ^ m → v < 10 ^ suc m
 ten-more v m h = rw pow-suc (omega (arith, mul-le-mul-right 10 h, suc-mul (v / 10) 10, div-add-mod' v 10))
@@ -40,18 +40,18 @@ unfolding placesTo
 places-some m v = by-cases (decLt v 10) (λ y. rw (lt-ltb v 10 y) (omega arith)) (λ g. rw (le-ltb v 10 (omega arith)) (omega arith))
 
 -- the first digit of a number above 0 is no zero
-glyph-some : (d : ℕ) → 0 < d → d < 10 → glyph d ≡ 48 → ⊥
-unfolding glyph
-glyph-some d h l e = let q : 48 + d ≡ 48 = rw (lt-ltb d 10 l) at e in omega arith
+digit-byte-some : (d : ℕ) → 0 < d → d < 10 → digitByte d ≡ 48 → ⊥
+unfolding digitByte
+digit-byte-some d h l e = let q : 48 + d ≡ 48 = rw (lt-ltb d 10 l) at e in omega arith
 
 pub first-some : (m v : ℕ) → 0 < v → v < 10 ^ m → getD (digits 10 (placesTo m v) v) 0 0 ≡ 48 → ⊥
 unfolding placesTo digits
 first-some zero v h l e = omega arith
 first-some (suc m) v h l e =
     by-cases (decLt v 10)
-    (λ y. let q : glyph (v % 10) ≡ 48 = rw (lt-ltb v 10 y) at e in glyph-some (v % 10) (omega arith) (omega arith) q)
-    (λ g. let q : getD (digits 10 (placesTo m (v / 10)) (v / 10) ++ (glyph (v % 10) ∷ [])) 0 0 ≡ 48 = rw (le-ltb v 10 (omega arith)) at e in
-    first-some m (v / 10) (omega arith) (ten-less v m l) (sym (List·getD-append (digits 10 (placesTo m (v / 10)) (v / 10)) (glyph (v % 10) ∷ []) 0 0 (rw (length-digits 10 (placesTo m (v / 10)) (v / 10)) (some m (omega arith) (ten-less v m l)))) ∙ q))
+    (λ y. let q : digitByte (v % 10) ≡ 48 = rw (lt-ltb v 10 y) at e in digit-byte-some (v % 10) (omega arith) (omega arith) q)
+    (λ g. let q : getD (digits 10 (placesTo m (v / 10)) (v / 10) ++ (digitByte (v % 10) ∷ [])) 0 0 ≡ 48 = rw (le-ltb v 10 (omega arith)) at e in
+    first-some m (v / 10) (omega arith) (ten-less v m l) (sym (List·getD-append (digits 10 (placesTo m (v / 10)) (v / 10)) (digitByte (v % 10) ∷ []) 0 0 (rw (length-digits 10 (placesTo m (v / 10)) (v / 10)) (some m (omega arith) (ten-less v m l)))) ∙ q))
   where
     some : (m : ℕ) → 10 ≤ v → v / 10 < 10 ^ m → 0 < placesTo m (v / 10)
     some zero t h = absurd (omega arith)
@@ -85,10 +85,10 @@ spelled-low s p zero h = rw (pow-zero, add-zero) (omega arith)
 spelled-low s p (suc k) h = rw pow-suc (let i = spelled-low s p k h in omega arith)
 
 -- a digit that is no zero
-glyph-none : glyph 0 ≡ 48
-unfolding glyph
-glyph-none = refl
+digit-byte-none : digitByte 0 ≡ 48
+unfolding digitByte
+digit-byte-none = refl
 
 pub some-digit : (c : ℕ) → digitOf c < 16 → (c ≡ 48 → ⊥) → 1 ≤ digitOf c
 some-digit c h n =
-    by-cases (ℕ-discrete (digitOf c) 0) (λ e. absurd (n (sym (digit-glyph c h) ∙ ap glyph e ∙ glyph-none))) (λ e. omega arith)
+    by-cases (ℕ-discrete (digitOf c) 0) (λ e. absurd (n (sym (digit-digit-byte c h) ∙ ap digitByte e ∙ digit-byte-none))) (λ e. omega arith)

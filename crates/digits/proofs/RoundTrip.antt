@@ -10,22 +10,22 @@ use native.Mathlib.Omega.{arith}
 use borrow.Author.Tests.{lt-ltb, le-ltb}
 use lib.ListN.{length, getD, take, drop, take-append-drop, length-drop, List·getD-append}
 use lib.Seq.{getD-append-add, getD-at, take-suc, drop-cons, getD-drop, drop-drop}
-use Rattle.digits.specs.Digits.{byteAt, digitOf, glyph, runOf, spelled, digits}
+use Rattle.digits.specs.Digits.{byteAt, digitOf, digitByte, runOf, spelled, digits}
 use Rattle.digits.proofs.Numerals.{length-digits}
 use Rattle.digits.proofs.Scan.{in-text, run-digits}
 
 -- a digit is written and read back
-pub glyph-digit : (d : ℕ) → d < 16 → digitOf (glyph d) ≡ d
-unfolding digitOf glyph
-glyph-digit d h =
+pub digit-byte-digit : (d : ℕ) → d < 16 → digitOf (digitByte d) ≡ d
+unfolding digitOf digitByte
+digit-byte-digit d h =
     by-cases (decLt d 10)
     (λ l. rw (lt-ltb d 10 l, le-ltb (48 + d) 48 (omega arith), lt-ltb (48 + d) 58 (omega arith)) (omega arith))
     (λ g. let u : 10 ≤ d = omega arith in
     rw (le-ltb d 10 u, le-ltb (87 + d) 48 (omega arith), le-ltb (87 + d) 58 (omega arith), le-ltb (87 + d) 97 (omega arith), lt-ltb (87 + d) 103 (omega arith)) (omega arith))
 
 module _ (b : ℕ) (z : 0 < b) (h16 : b ≤ 16) where
-  last-digit : (x : ℕ) → digitOf (glyph (x % b)) ≡ x % b
-  last-digit x = glyph-digit (x % b) (omega (arith, mod-lt x z))
+  last-digit : (x : ℕ) → digitOf (digitByte (x % b)) ≡ x % b
+  last-digit x = digit-byte-digit (x % b) (omega (arith, mod-lt x z))
 
   -- each byte of a number is a digit
   pub digits-at : (k x j : ℕ) → j < k → digitOf (getD (digits b k x) j 0) < b
@@ -33,8 +33,8 @@ module _ (b : ℕ) (z : 0 < b) (h16 : b ≤ 16) where
   digits-at zero x j h = absurd (omega arith)
   digits-at (suc k) x j h =
       ⊎-elim
-      (λ q. rw (getD-at (digits b k (x / b)) (glyph (x % b)) [] 0 j (length-digits b k (x / b) ∙ sym q), last-digit x) (mod-lt x z))
-      (λ q. rw (List·getD-append (digits b k (x / b)) (glyph (x % b) ∷ []) 0 j (rw (length-digits b k (x / b)) q)) (digits-at k (x / b) j q))
+      (λ q. rw (getD-at (digits b k (x / b)) (digitByte (x % b)) [] 0 j (length-digits b k (x / b) ∙ sym q), last-digit x) (mod-lt x z))
+      (λ q. rw (List·getD-append (digits b k (x / b)) (digitByte (x % b) ∷ []) 0 j (rw (length-digits b k (x / b)) q)) (digits-at k (x / b) j q))
       (eq-or-lt-of-le {n = j} {m = k} (omega arith))
 
   -- k digits of x, wherever they stand in a text, spell x
@@ -42,7 +42,7 @@ module _ (b : ℕ) (z : 0 < b) (h16 : b ≤ 16) where
   unfolding spelled digits
   spelled-back zero x A C h = let q : x < 1 = rw pow-zero at h in omega arith
   spelled-back (suc k) x A C h =
-      let g = glyph (x % b) in
+      let g = digitByte (x % b) in
       let W = digits b k (x / b) in
       let s = A ++ (W ++ (g ∷ C)) in
       let e : A ++ ((W ++ (g ∷ [])) ++ C) ≡ s = ap (λ (l : List ℕ). A ++ l) (append-assoc W (g ∷ []) C) in
@@ -84,9 +84,9 @@ module _ (b : ℕ) (z : 0 < b) (h16 : b ≤ 16) (A : List ℕ) (k x c : ℕ) (B 
   first-byte h = rw add-zero at (byte-inside 0 h)
 
 -- a digit is read and written back
-pub digit-glyph : (c : ℕ) → digitOf c < 16 → glyph (digitOf c) ≡ c
-unfolding digitOf glyph
-digit-glyph c h =
+pub digit-digit-byte : (c : ℕ) → digitOf c < 16 → digitByte (digitOf c) ≡ c
+unfolding digitOf digitByte
+digit-digit-byte c h =
     by-cases (decLt c 48) (λ y. let q : 16 < 16 = rw (lt-ltb c 48 y) at h in absurd (omega arith))
     (λ a. by-cases (decLt c 58)
     (λ y. rw (le-ltb c 48 (omega arith), lt-ltb c 58 y, lt-ltb (c - 48) 10 (omega arith)) (omega arith))
@@ -109,7 +109,7 @@ module _ (b : ℕ) (z : 0 < b) (h16 : b ≤ 16) (s : List ℕ) (p : ℕ) where
       let m : (v * b + digitOf c) % b ≡ digitOf c = rw (add-comm (v * b) (digitOf c), add-mul-mod-self-right (digitOf c) v b) (mod-eq-of-lt g) in
       let l : k < length (drop p s) = rw (length-drop p s) (omega arith) in
       take-suc (drop p s) k 0 l
-      ∙ rw (e, m, getD-drop p s k 0, digit-glyph c (omega arith), digits-back k (λ j y. f j (omega arith)) (omega arith))
+      ∙ rw (e, m, getD-drop p s k 0, digit-digit-byte c (omega arith), digits-back k (λ j y. f j (omega arith)) (omega arith))
     where
       small-div : (d : ℕ) → d < b → d / b ≡ 0
       small-div d h = let q : d / b < 1 = div-lt-iff-lt-mul {k = b} {x = d} {y = 1} z .1 (omega arith) in omega arith

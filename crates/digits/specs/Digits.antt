@@ -14,8 +14,8 @@ unfoldable pub digitOf : ℕ → ℕ
 digitOf b = cond (ltb b 48) 16 (cond (ltb b 58) (b - 48) (cond (ltb b 97) 16 (cond (ltb b 103) (b - 87) 16)))
 
 -- the byte of a digit below 16
-unfoldable pub glyph : ℕ → ℕ
-glyph d = cond (ltb d 10) (48 + d) (87 + d)
+unfoldable pub digitByte : ℕ → ℕ
+digitByte d = cond (ltb d 10) (48 + d) (87 + d)
 
 -- how many of the bytes from p on are digits in base b, of the first m bytes there
 unfoldable pub runOf : ℕ → List ℕ → ℕ → ℕ → ℕ
@@ -30,7 +30,7 @@ spelled b s p (suc k) = spelled b s p k * b + digitOf (byteAt s (p + k))
 -- the last k digits of x in base b, the most significant first
 unfoldable pub digits : ℕ → ℕ → ℕ → List ℕ
 digits b zero x = []
-digits b (suc k) x = digits b k (x / b) ++ (glyph (x % b) ∷ [])
+digits b (suc k) x = digits b k (x / b) ++ (digitByte (x % b) ∷ [])
 
 -- how many decimal digits x takes, for x below 10 ^ m and m above 0; m for a larger x
 unfoldable pub placesTo : ℕ → ℕ → ℕ

@@ -1,7 +1,7 @@
 // Digits in ASCII, the bytes of a text by their place, and what ends a field of a line.
 ghost use mathlib.Core.Path.{_≡_};
 ghost use Prim.Native.Nat.{_<_};
-ghost use Rattle.digits.specs.Digits.{byteAt, digitOf, glyph as glyphOf, stopOf};
+ghost use Rattle.digits.specs.Digits.{byteAt, digitOf, digitByte, stopOf};
 
 // The byte at a place, and 0 behind the end.
 pub fn byte_at(text: &[u8], i: usize) -> u8
@@ -33,9 +33,9 @@ pub fn digit(b: u8) -> u64
 }
 
 // Inner form. The byte of a digit below 16.
-pub fn glyph(d: u64) -> u8
+pub fn digit_byte(d: u64) -> u8
     requires { ⌜ d < 16 ⌝ }
-    ensures { λ r. ⌜ r ≡ glyphOf d ⌝ }
+    ensures { λ r. ⌜ r ≡ digitByte d ⌝ }
 {
     if d < 10 { 48 + d as u8 } else { 87 + d as u8 }
 }

@@ -16,13 +16,13 @@ minusOne64 = fin true 1 (pos 0)
 abbrev pub two64 : Float
 two64 = fin false 1 (pos 1)
 
--- c, held to -1..1; a NaN passes
-unfoldable pub held : Float → Float
-held c = cond (lt c minusOne64) minusOne64 (cond (lt one64 c) one64 c)
+-- c, clamped to -1..1; a NaN passes
+unfoldable pub clamped : Float → Float
+clamped c = cond (lt c minusOne64) minusOne64 (cond (lt one64 c) one64 c)
 
 -- the distance of two names with the correlation c: the root of (1 - c) / 2
 unfoldable pub distanceOf : Float → Float
-distanceOf c = root (div binary64 (sub binary64 one64 (held c)) two64)
+distanceOf c = root (div binary64 (sub binary64 one64 (clamped c)) two64)
 
 -- row i, column j of the book that the rows make out of a book of n columns: a cell of the whole, which stays where it is
 unfoldable pub through : List Float → ℕ → List ℕ → ℕ → ℕ → Float

@@ -11,9 +11,9 @@ ghost use Rattle.distance.specs.Distance.{through, distAt, Readable};
 ghost use Rattle.distance.specs.Leaves as leaves;
 use refusals::Answer;
 
-// c, held to -1..1; a NaN passes.
-fn held(c: f64) -> f64
-    ensures { λ r. ⌜ r ≡ spec.held c ⌝ }
+// c, clamped to -1..1; a NaN passes.
+fn clamp(c: f64) -> f64
+    ensures { λ r. ⌜ r ≡ spec.clamped c ⌝ }
 {
     if c < -1.0 {
         return -1.0;
@@ -28,7 +28,7 @@ fn held(c: f64) -> f64
 pub fn distance(c: f64) -> f64
     ensures { λ r. ⌜ r ≡ spec.distanceOf c ⌝ }
 {
-    sqrt::sqrt((1.0 - held(c)) / 2.0)
+    sqrt::sqrt((1.0 - clamp(c)) / 2.0)
 }
 
 // Row i, column j of the book that the rows make. Inner form.

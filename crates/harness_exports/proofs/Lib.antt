@@ -1,3 +1,3 @@
--- Laws of what the harness is told.
-pub mod Told
+-- Laws of what the harness gets.
+pub mod Reported
 pub mod Next

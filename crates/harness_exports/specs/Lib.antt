@@ -1,3 +1,3 @@
--- What the harness is told of a call: Told.antt for the k-means leaves, Next.antt for the inner forms.
-pub mod Told
+-- What the harness gets of a call: Reported.antt for the k-means leaves, Next.antt for the inner forms.
+pub mod Reported
 pub mod Next

@@ -1,4 +1,4 @@
--- The place of the next draw, as the harness is told it. Definitions only.
+-- The place of the next draw, as the harness gets it. Definitions only.
 use Prim.Native.Nat.{ℕ}
 use Rattle.draws.specs.Draws.{Drawn, drawn, refused}
 

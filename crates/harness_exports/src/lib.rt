@@ -24,7 +24,7 @@ ghost use Rattle.lloyd.specs.Area.{Held, Centres};
 ghost use Rattle.clustering.specs.Clustering.{kmeansOf};
 ghost use Rattle.clustering.specs.Steps.{Enough, labelsAfter};
 ghost use Rattle.scoring.specs.Scoring.{scoresOf, Round};
-ghost use Rattle.harness_exports.specs.Told.{toldOf};
+ghost use Rattle.harness_exports.specs.Reported.{reportedOf};
 ghost use Rattle.harness_exports.specs.Next.{nextAfter};
 use clustering::Clustered;
 use kmeans_answers::Kmeans;
@@ -55,7 +55,7 @@ fn answer_refused(cells: usize, n: usize, places: usize) -> usize
 }
 
 // The number, the place and the draws read, in a list of three; the number.
-fn tell(a: Kmeans, answer: &mut [usize]) -> usize
+fn report(a: Kmeans, answer: &mut [usize]) -> usize
     requires { ⌜ length (now answer) ≡ 3 ⌝ }
     ensures { λ r. ⌜ (r ≡ numberOf a) × (now (answer .exit) ≡ numberOf a ∷ placeOf a ∷ readOf a ∷ []) ⌝ }
 {
@@ -78,14 +78,14 @@ pub extern "C" fn onc_kmeans_plus_plus(
     answer: &mut [usize],
 ) -> usize
     ensures { λ r. ⌜ record { number = r; answer = now (answer .exit); out = now (centres .exit); floats = now (floats .exit); numbers = now (numbers .exit) }
-        ≡ toldOf (length (now (points .entry))) n (plusPlusLeaf (now (points .entry)) n k (now (draws .entry)) (now (centres .entry)) (now (floats .entry)) (now (numbers .entry))) (now (answer .entry)) (now (centres .entry)) (now (floats .entry)) (now (numbers .entry)) ⌝ }
+        ≡ reportedOf (length (now (points .entry))) n (plusPlusLeaf (now (points .entry)) n k (now (draws .entry)) (now (centres .entry)) (now (floats .entry)) (now (numbers .entry))) (now (answer .entry)) (now (centres .entry)) (now (floats .entry)) (now (numbers .entry)) ⌝ }
 {
     let refused = answer_refused(points.len(), n, answer.len());
     if refused != 0 {
         return refused;
     }
     let a = kmeans::kmeans_plus_plus(points, n, k, draws, centres, floats, numbers);
-    tell(a, answer)
+    report(a, answer)
 }
 
 #[no_mangle]
@@ -99,14 +99,14 @@ pub extern "C" fn onc_lloyd(
     answer: &mut [usize],
 ) -> usize
     ensures { λ r. ⌜ record { number = r; answer = now (answer .exit); out = now (labels .exit); floats = now (floats .exit); numbers = now (numbers .exit) }
-        ≡ toldOf (length (now (points .entry))) n (lloydLeaf (now (points .entry)) n (now (centres .entry)) (now (labels .entry)) (now (floats .entry)) (now (numbers .entry))) (now (answer .entry)) (now (labels .entry)) (now (floats .entry)) (now (numbers .entry)) ⌝ }
+        ≡ reportedOf (length (now (points .entry))) n (lloydLeaf (now (points .entry)) n (now (centres .entry)) (now (labels .entry)) (now (floats .entry)) (now (numbers .entry))) (now (answer .entry)) (now (labels .entry)) (now (floats .entry)) (now (numbers .entry)) ⌝ }
 {
     let refused = answer_refused(points.len(), n, answer.len());
     if refused != 0 {
         return refused;
     }
     let a = kmeans::lloyd(points, n, centres, labels, floats, numbers);
-    tell(a, answer)
+    report(a, answer)
 }
 
 #[no_mangle]
@@ -121,14 +121,14 @@ pub extern "C" fn onc_kmeans_labels(
     answer: &mut [usize],
 ) -> usize
     ensures { λ r. ⌜ record { number = r; answer = now (answer .exit); out = now (labels .exit); floats = now (floats .exit); numbers = now (numbers .exit) }
-        ≡ toldOf (length (now (points .entry))) n (labelsLeaf (now (points .entry)) n k (now (draws .entry)) (now (labels .entry)) (now (floats .entry)) (now (numbers .entry))) (now (answer .entry)) (now (labels .entry)) (now (floats .entry)) (now (numbers .entry)) ⌝ }
+        ≡ reportedOf (length (now (points .entry))) n (labelsLeaf (now (points .entry)) n k (now (draws .entry)) (now (labels .entry)) (now (floats .entry)) (now (numbers .entry))) (now (answer .entry)) (now (labels .entry)) (now (floats .entry)) (now (numbers .entry)) ⌝ }
 {
     let refused = answer_refused(points.len(), n, answer.len());
     if refused != 0 {
         return refused;
     }
     let a = kmeans::kmeans_labels(points, n, k, draws, labels, floats, numbers);
-    tell(a, answer)
+    report(a, answer)
 }
 
 // What k-means reads of the points, worked out once for every k. Inner form.

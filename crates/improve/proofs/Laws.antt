@@ -19,7 +19,7 @@ use Rattle.partition.specs.Partition.{Partition, State, joined, groupAt, labelO
 use Rattle.partition.specs.Orders.{sizesOf, cut, Sized}
 use Rattle.quality.specs.Quality.{qualitiesOf, average, weak, weakCount, weakMean, picked, onSide, weakGroups, keptGroups}
 use Rattle.improve.specs.Improve.{weakItems, translated, mergedOf, rescored, meanQuality}
-use Rattle.improve.specs.Steps.{stateOf, Weakened, Kept, Behind, Appended, Scored, Parted, Improvable, Merged, Improves}
+use Rattle.improve.specs.Steps.{stateOf, Weakened, Kept, Behind, Appended, Scored, PartitionLists, Improvable, Merged, Improves}
 use Rattle.scoring.proofs.Laws.{book-points, scores-same}
 use Rattle.partition.proofs.Members.{joined-append}
 use Rattle.partition.proofs.Cuts.{cut-length, cut-order, cut-joined, sized-of, partition-length, groups-few}
@@ -209,7 +209,7 @@ module _ {gs : List (List ℕ)} {m r : ℕ} {out counts : List ℕ} (G : Merged 
   pub merged-cut : cut r counts out ≡ gs
   merged-cut = rw (G .groups-are, G .ordered, G .sized) (cut-joined gs m (groups-few p))
 
-  pub merged-parted : m ≤ 256 → Parted m r out counts
+  pub merged-parted : m ≤ 256 → PartitionLists m r out counts
   merged-parted few =
       record {
         sized = rw (G .groups-are, G .ordered, G .sized) (sized-of p few);
@@ -224,7 +224,7 @@ book-scores x m area {front} e gs {labels} l h =
     (λ i a. ap (λ (k : List ℕ). numbers k i) l ∙ getD-listed (labelOf gs) m i 0 a)
 
 -- the label of each item is the number of one of the groups
-pub book-labels : {m count : ℕ} {order sizes labels : List ℕ} → Parted m count order sizes → 0 < m → labels ≡ listed (labelOf (cut count sizes order)) m → (i : ℕ) → i < m → numbers labels i < count
+pub book-labels : {m count : ℕ} {order sizes labels : List ℕ} → PartitionLists m count order sizes → 0 < m → labels ≡ listed (labelOf (cut count sizes order)) m → (i : ℕ) → i < m → numbers labels i < count
 book-labels {m} {count} {order} {sizes} {labels} q some l i h =
     let a : numbers labels i ≡ labelOf (cut count sizes order) i = ap (λ (k : List ℕ). numbers k i) l ∙ getD-listed (labelOf (cut count sizes order)) m i 0 h in
     omega (arith, a, labels-below (q .parts) some i h, cut-length count sizes order)

@@ -43,7 +43,7 @@ pub record Appended (items order sizes : List ℕ) (count groups from : ℕ) (ou
   pub sized : counts′ ≡ put groups count counts (take count sizes)
 
 -- a partition stands in an order and its sizes
-pub record Parted (m count : ℕ) (order sizes : List ℕ) : Type 0 where
+pub record PartitionLists (m count : ℕ) (order sizes : List ℕ) : Type 0 where
   pub sized : Sized m count order sizes
   pub parts : Partition m (cut count sizes order)
 
@@ -51,15 +51,15 @@ pub record Parted (m count : ℕ) (order sizes : List ℕ) : Type 0 where
 pub record Scored (book : List Float) (n : ℕ) (rows order sizes : List ℕ) (count : ℕ) (area : List Float) (labels scores : ℕ) : Type 0 where
   pub readable : Readable book n rows
   pub some : 0 < length rows
-  pub groups : Parted (length rows) count order sizes
+  pub groups : PartitionLists (length rows) count order sizes
   pub size : length area ≡ 5 * (length rows * length rows)
   pub labels-long : labels ≡ length rows
   pub scores-long : scores ≡ length rows
 
 -- a base with its weak items, and a partition of the book that these make
 pub record Improvable (m count : ℕ) (order sizes : List ℕ) (scores : List Float) (items : List ℕ) (inner : ℕ) (innerOrder innerSizes : List ℕ) : Type 0 where
-  pub base : Parted m count order sizes
-  pub inside : Parted (length items) inner innerOrder innerSizes
+  pub base : PartitionLists m count order sizes
+  pub inside : PartitionLists (length items) inner innerOrder innerSizes
   pub weak : items ≡ weakItems (stateOf count sizes order scores)
   pub any : 0 < m
 

@@ -5,7 +5,7 @@ use mathlib.Core.Bool.{Bool, cond, false, true}
 use native.Mathlib.Omega.{arith}
 use lib.ListN.{length}
 use lib.Ieee.{Float}
-use Rattle.lloyd.specs.Passes.{centroidsAt, labelsAt, lloydLabels, nearest, passes, restsAt}
+use Rattle.lloyd.specs.Passes.{centroidsAt, labelsAt, lloydLabels, nearest, passes, convergesAt}
 use lib.Dec.{eqb, ltb}
 use borrow.Author.Tests.{ne-eqb}
 use Rattle.columns.specs.Pair.{squared}
@@ -41,15 +41,15 @@ module _ (x : ℕ → ℕ → Float) (m k : ℕ) (centre : ℕ → ℕ) (some : 
   start = getD-listed (λ i. k) m 0 0 some
 
   -- the first pass changes a label
-  pub first-changes : restsAt x m k centre 0 ≡ false
+  pub first-changes : convergesAt x m k centre 0 ≡ false
   first-changes =
       sym (all-fails (λ i. eqb (numbers (labelsAt x m k centre 0) i) (numbers (labelsAt x m k centre 1) i)) m 0 some
       (rw start (ne-eqb k (numbers (labelsAt x m k centre 1) 0) (λ e. omega (arith, pass-below 0 0 some)))))
 
   pub some-passes : 1 ≤ passes x m k centre
   some-passes =
-      let e = first-more (restsAt x m k centre) 0 (first-zero (restsAt x m k centre)) first-changes in
-      first-later (restsAt x m k centre) 299 (omega (arith, e))
+      let e = first-more (convergesAt x m k centre) 0 (first-zero (convergesAt x m k centre)) first-changes in
+      first-later (convergesAt x m k centre) 299 (omega (arith, e))
 
   at-least : (p : ℕ) → 1 ≤ p → (i : ℕ) → i < m → numbers (labelsAt x m k centre p) i < k
   at-least zero s i h = absurd (omega arith)

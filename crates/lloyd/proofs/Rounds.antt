@@ -7,7 +7,7 @@ use native.Mathlib.Omega.{arith}
 use native.Mathlib.Numerals.{add-one}
 use lib.ListN.{length, replicate, take}
 use lib.Ieee.{Float, nan}
-use Rattle.lloyd.specs.Passes.{centroidsAt, distsOf, labelsAt, labelsOf, moved, nearest, restsAt}
+use Rattle.lloyd.specs.Passes.{centroidsAt, distsOf, labelsAt, labelsOf, moved, nearest, convergesAt}
 use borrow.Author.Tests.{lt-ltb, ne-eqb}
 use Rattle.nearest.specs.Nearest.{nearestTo, sameLabels}
 use Rattle.centroids.specs.Groups.{distances, mean}
@@ -23,7 +23,7 @@ use Rattle.lists.proofs.Listed.{getD-listed, listed-const, listed-same}
 use Rattle.lloyd.specs.Area.{After, Clustered, Kept, Table, tableRow}
 use Rattle.lloyd.proofs.Rows.{points-kept}
 use Rattle.lloyd.specs.declared.Ended.{Ended}
-use Rattle.lloyd.specs.declared.Ended.the-variants.{Cut, Rest}
+use Rattle.lloyd.specs.declared.Ended.the-variants.{PassLimit, Converged}
 
 -- the nearest by the table are the nearest by the centroids
 module _ (x : ℕ → ℕ → Float) (area : List Float) (m k : ℕ) (centroid : ℕ → ℕ → Float) (w : Table area m k x centroid) where
@@ -61,8 +61,8 @@ module _ (x : ℕ → ℕ → Float) (m : ℕ) (centres : List ℕ) where
   abbrev centroids : ℕ → ℕ → ℕ → Float
   centroids = centroidsAt x m (length centres) (numbers centres)
 
-  abbrev rests : ℕ → Bool
-  rests = restsAt x m (length centres) (numbers centres)
+  abbrev converges : ℕ → Bool
+  converges = convergesAt x m (length centres) (numbers centres)
 
   module _ {t : ℕ} {labels : List ℕ} {area : List Float} (w : After x m centres t labels area) where
     pub after-labels : {fresh : List ℕ} → fresh ≡ listed (λ i. nearestTo (λ l. cells (tableRow area m l) i) (length centres) .at) m → fresh ≡ labelsOf x m (length centres) (centroids t)
@@ -72,20 +72,20 @@ module _ (x : ℕ → ℕ → Float) (m : ℕ) (centres : List ℕ) where
     after-dists e = near-dists x area m (length centres) (centroids t) (w .rows) e
 
   module _ (t : ℕ) {labels fresh : List ℕ} {area : List Float} (w : After x m centres t labels area) (e : fresh ≡ labelsOf x m (length centres) (centroids t)) where
-    same : rests t ≡ sameLabels labels fresh m
+    same : converges t ≡ sameLabels labels fresh m
     unfolding labelsAt
     same = rw (w .given, e)
 
-    pub come-to-rest : t < 300 → firstTo rests t ≡ t → sameLabels labels fresh m ≡ true → Clustered x m centres Rest labels
-    come-to-rest h f s =
-        let p = first-found rests t 300 f (same ∙ s) h in
+    pub has-converged : t < 300 → firstTo converges t ≡ t → sameLabels labels fresh m ≡ true → Clustered x m centres Converged labels
+    has-converged h f s =
+        let p = first-found converges t 300 f (same ∙ s) h in
         record {
           answer = rw (← p, lt-ltb t 300 h);
           labelled = rw (← p) (w .given);
         }
 
-    pub go-on : firstTo rests t ≡ t → sameLabels labels fresh m ≡ false → firstTo rests (t + 1) ≡ t + 1
-    go-on f s = first-more rests t f (same ∙ s)
+    pub go-on : firstTo converges t ≡ t → sameLabels labels fresh m ≡ false → firstTo converges (t + 1) ≡ t + 1
+    go-on f s = first-more converges t f (same ∙ s)
 
     pub after-more : {dists area′ : List Float} {labels′ : List ℕ} → dists ≡ distsOf x m (length centres) (centroids t) → Table area′ m (length centres) x (moved x (numbers fresh) (cells dists) m) → labels′ ≡ fresh
         → After x m centres (t + 1) labels′ area′
@@ -96,9 +96,9 @@ module _ (x : ℕ → ℕ → Float) (m : ℕ) (centres : List ℕ) where
           rows = rw (add-one, ← e, ← d) r;
         }
 
-  pub run-out : (t : ℕ) {labels : List ℕ} {area : List Float} → t ≡ 300 → firstTo rests t ≡ t → After x m centres t labels area → Clustered x m centres Cut labels
+  pub run-out : (t : ℕ) {labels : List ℕ} {area : List Float} → t ≡ 300 → firstTo converges t ≡ t → After x m centres t labels area → Clustered x m centres PassLimit labels
   run-out t q f w =
-      let p : firstTo rests 300 ≡ 300 = rw q at f in
+      let p : firstTo converges 300 ≡ 300 = rw q at f in
       record {
         answer = rw p;
         labelled = rw (p, ← q) (w .given);

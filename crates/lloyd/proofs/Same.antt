@@ -4,7 +4,7 @@ use mathlib.Core.Path.{_∙_, _≡_, ap, refl, sym}
 use mathlib.Core.Bool.{Bool, cond, false, true}
 use native.Mathlib.Omega.{arith}
 use lib.Ieee.{Float, nan}
-use Rattle.lloyd.specs.Passes.{centroidsAt, distsOf, labelsAt, labelsOf, lloydEnded, lloydLabels, moved, nearest, passes, restsAt, taken, takes}
+use Rattle.lloyd.specs.Passes.{centroidsAt, distsOf, labelsAt, labelsOf, lloydEnded, lloydLabels, moved, nearest, passes, convergesAt, taken, takes}
 use lib.Dec.{eqb, ltb}
 use Rattle.centroids.specs.Groups.{mean}
 use Rattle.columns.specs.Pair.{squared}
@@ -14,7 +14,7 @@ use Rattle.nearest.proofs.Steps.{farthest-below, nearest-same}
 use Rattle.centroids.proofs.Members.{mean-agree, squared-agree}
 use Rattle.lists.proofs.Listed.{listed-same}
 use Rattle.lloyd.proofs.Rows.{items}
-use Rattle.lloyd.specs.declared.Ended.the-variants.{Cut, Rest}
+use Rattle.lloyd.specs.declared.Ended.the-variants.{PassLimit, Converged}
 use Rattle.lists.proofs.First.{first-same}
 
 cond-same : (b : Bool) (u v y z : Float) → u ≡ y → v ≡ z → cond b u v ≡ cond b y z
@@ -61,7 +61,7 @@ module _ (x y : ℕ → ℕ → Float) (m k : ℕ) (centre : ℕ → ℕ) (agree
   labels-same (suc t) = labels-of (centroidsAt x m k centre t) (centroidsAt y m k centre t) (centroids-same t)
 
   passes-same : passes x m k centre ≡ passes y m k centre
-  passes-same = first-same (restsAt x m k centre) (restsAt y m k centre) 300 (λ t l. rw (labels-same t, labels-same (suc t)))
+  passes-same = first-same (convergesAt x m k centre) (convergesAt y m k centre) 300 (λ t l. rw (labels-same t, labels-same (suc t)))
 
   pub lloyd-same : (lloydLabels x m k centre ≡ lloydLabels y m k centre) × (lloydEnded x m k centre ≡ lloydEnded y m k centre)
-  lloyd-same = (labels-same (passes x m k centre) ∙ ap (labelsAt y m k centre) passes-same, ap (λ p. cond (ltb p 300) Rest Cut) passes-same)
+  lloyd-same = (labels-same (passes x m k centre) ∙ ap (labelsAt y m k centre) passes-same, ap (λ p. cond (ltb p 300) Converged PassLimit) passes-same)

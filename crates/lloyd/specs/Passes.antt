@@ -12,7 +12,7 @@ use Rattle.nearest.specs.Nearest.{nearestTo, farthestTo, sameLabels}
 use Rattle.centroids.specs.Groups.{mean}
 use Rattle.columns.specs.Pair.{squared}
 use Rattle.lloyd.specs.declared.Ended.{Ended}
-use Rattle.lloyd.specs.declared.Ended.the-variants.{Rest, Cut}
+use Rattle.lloyd.specs.declared.Ended.the-variants.{Converged, PassLimit}
 
 -- item i is taken by an empty group below l; each takes the farthest item that is not yet taken, the lowest of equals
 unfoldable pub taken : (ℕ → ℕ) → (ℕ → Float) → ℕ → ℕ → ℕ → Bool
@@ -51,17 +51,17 @@ labelsAt x m k centre zero = listed (λ i. k) m
 labelsAt x m k centre (suc t) = labelsOf x m k (centroidsAt x m k centre t)
 
 -- pass t + 1 changes no label
-abbrev pub restsAt : (ℕ → ℕ → Float) → ℕ → ℕ → (ℕ → ℕ) → ℕ → Bool
-restsAt x m k centre t = sameLabels (labelsAt x m k centre t) (labelsAt x m k centre (suc t)) m
+abbrev pub convergesAt : (ℕ → ℕ → Float) → ℕ → ℕ → (ℕ → ℕ) → ℕ → Bool
+convergesAt x m k centre t = sameLabels (labelsAt x m k centre t) (labelsAt x m k centre (suc t)) m
 
 -- how many passes change a label, before the first that changes none; 300 where each of 300 does
 abbrev pub passes : (ℕ → ℕ → Float) → ℕ → ℕ → (ℕ → ℕ) → ℕ
-passes x m k centre = firstTo (restsAt x m k centre) 300
+passes x m k centre = firstTo (convergesAt x m k centre) 300
 
 -- the labels at the end
 abbrev pub lloydLabels : (ℕ → ℕ → Float) → ℕ → ℕ → (ℕ → ℕ) → List ℕ
 lloydLabels x m k centre = labelsAt x m k centre (passes x m k centre)
 
--- whether the passes came to rest, or were cut after 300
+-- whether the passes converged, or were cut after 300
 abbrev pub lloydEnded : (ℕ → ℕ → Float) → ℕ → ℕ → (ℕ → ℕ) → Ended
-lloydEnded x m k centre = cond (ltb (passes x m k centre) 300) Rest Cut
+lloydEnded x m k centre = cond (ltb (passes x m k centre) 300) Converged PassLimit

@@ -15,10 +15,10 @@ ghost use Rattle.centroids.specs.Groups.{meanOver, distances};
 ghost use Rattle.lloyd.specs.Passes.{moved};
 ghost use Rattle.lloyd.specs.Area.{Held, Centres, tableRow, withRow, Table, Kept, Refreshed, After, Clustered};
 
-// The passes came to rest, or were cut after 300.
+// The passes converged, or were cut after 300.
 pub enum Ended {
-    Rest,
-    Cut,
+    Converged,
+    PassLimit,
 }
 
 // The squared pair distances of item j become row l of the table. Inner form, as all functions here.
@@ -202,12 +202,12 @@ fn run(
     for t in 0..300usize {
         assign_in(area, k, dists, fresh);
         if nearest::same_labels(labels, fresh) {
-            return Ended::Rest;
+            return Ended::Converged;
         }
         refresh(area, labels, fresh, k, dists, sums);
         lists::copy_numbers(fresh, labels);
     }
-    Ended::Cut
+    Ended::PassLimit
 }
 
 // The groups of the m items, from the items `centres` as first centroids. The pass that changes no label ends it; after 300 passes it is cut.

@@ -14,7 +14,7 @@ use Rattle.rounds.specs.Round.{Run, done, ended}
 use Rattle.onc_answers.specs.declared.Onc.{Onc}
 use Rattle.onc_answers.specs.Answers.{Answer, numberOf, answerOf, listsFit, shapeOf, refusing}
 use Rattle.onc.specs.Onc.{Lists, Outcome, shape, runOf, ran, groupOf}
-use Rattle.onc.specs.Steps.{Fair}
+use Rattle.onc.specs.Steps.{WithinLimits}
 use Rattle.onc.specs.Demands.{Demand1, grouping, not-started, not-ended, Within}
 use Rattle.onc.proofs.Shapes.{shape-cause, shape-place, shape-within, within-shape, shape-asked}
 
@@ -87,7 +87,7 @@ module _ (book : List Float) (rows cols repeat : ℕ) (draws : List ℕ) (l : Li
 
   -- and without one the run may start
   pub asked-fair : numberOf asked ≡ 0
-      → Fair book rows repeat (length (l .order)) (length (l .sizes)) (length (l .scores)) (length (l .floats)) (length (l .numbers)) × (length (l .ordered) ≡ rows * rows)
+      → WithinLimits book rows repeat (length (l .order)) (length (l .sizes)) (length (l .scores)) (length (l .floats)) (length (l .numbers)) × (length (l .ordered) ≡ rows * rows)
   asked-fair e =
       let w = shape-within book rows cols repeat l (asked-none e) .1 in (
         record {

@@ -10,7 +10,7 @@ use Rattle.rounds.specs.Round.{Run}
 use Rattle.top.specs.Steps.{topOf, orderAfter, sizesAfter, scoresAfter}
 
 -- a book within the limits, and lists of the lengths that are asked for
-pub record Fair (book : List Float) (n repeat order sizes scores floats numbers : ℕ) : Type 0 where
+pub record WithinLimits (book : List Float) (n repeat order sizes scores floats numbers : ℕ) : Type 0 where
   pub two : 2 ≤ n
   pub few : n ≤ 256
   pub some : 1 ≤ repeat

@@ -5,7 +5,7 @@ ghost use lib.ListN.{length};
 ghost use Rattle.lists.specs.Lists.{listed};
 ghost use Rattle.onc_answers.specs.Answers.{answerOf};
 ghost use Rattle.onc.specs.Onc.{runOf, ran, groupOf};
-ghost use Rattle.onc.specs.Steps.{Fair, Ran};
+ghost use Rattle.onc.specs.Steps.{WithinLimits, Ran};
 use onc_answers::Onc;
 use top::Top;
 
@@ -31,7 +31,7 @@ fn run(
     floats: &mut [f64],
     numbers: &mut [usize],
 ) -> Top
-    requires { ⌜ Fair (now book) n repeat (length (now order)) (length (now sizes)) (length (now scores)) (length (now floats)) (length (now numbers)) ⌝ }
+    requires { ⌜ WithinLimits (now book) n repeat (length (now order)) (length (now sizes)) (length (now scores)) (length (now floats)) (length (now numbers)) ⌝ }
     ensures { λ r. ⌜ Ran (runOf (now (book .entry)) n repeat (now (draws .entry))) n r (now (order .entry)) (now (order .exit)) (now (sizes .entry)) (now (sizes .exit))
         (now (scores .entry)) (now (scores .exit)) (now (floats .entry)) (now (floats .exit)) (now (numbers .entry)) (now (numbers .exit)) ⌝ }
 {
@@ -64,7 +64,7 @@ fn finish(
     floats: &mut [f64],
     numbers: &mut [usize],
 ) -> Onc
-    requires { ⌜ Fair (now book) n repeat (length (now order)) (length (now sizes)) (length (now scores)) (length (now floats)) (length (now numbers)) × (length (now ordered) ≡ n * n) ⌝ }
+    requires { ⌜ WithinLimits (now book) n repeat (length (now order)) (length (now sizes)) (length (now scores)) (length (now floats)) (length (now numbers)) × (length (now ordered) ≡ n * n) ⌝ }
     ensures { λ r. ⌜ record {
       answer = answerOf r;
       lists = record {

@@ -24,9 +24,9 @@ use Rattle.base.specs.Base.{baseOf, basedOf, BasedBy, Leaves}
 use Rattle.base.specs.declared.Based.the-variants as based
 use Rattle.improve.specs.Improve.{weakItems}
 use Rattle.improve.specs.Steps.{stateOf}
-use Rattle.rounds.specs.declared.Begun.the-variants as begun
+use Rattle.rounds.specs.declared.RoundStart.the-variants as begun
 use Rattle.rounds.specs.Round.{Opening, started, unstarted, ofBest, openingOf, needOf, rowsOf}
-use Rattle.rounds.specs.Steps.{Opens, Begins, Stored, Marked, Room}
+use Rattle.rounds.specs.Steps.{MayStart, Starts, Stored, WeakFound, Room}
 use Rattle.rounds.proofs.Runs.{OpeningTook, opening-took}
 use Rattle.rounds.proofs.Standing.{stands-sized, stands-state}
 
@@ -51,7 +51,7 @@ module _ (book : List Float) (n repeats m : ℕ) (rows : List ℕ) (read : ℕ) 
       let e : length (drop read draws) < needOf repeats m = simp length-drop h in
       rw (len, lt-ltb (length (drop read draws)) (needOf repeats m) e)
 
-module _ (book : List Float) (n m repeats : ℕ) (draws : List ℕ) (read left : ℕ) (wi : List ℕ) (wf : List Float) (P : Opens book n m repeats draws read left wi wf) where
+module _ (book : List Float) (n m repeats : ℕ) (draws : List ℕ) (read left : ℕ) (wi : List ℕ) (wf : List Float) (P : MayStart book n m repeats draws read left wi wf) where
   abbrev rows : List ℕ
   rows = take m wi
 
@@ -123,7 +123,7 @@ module _ (book : List Float) (n m repeats : ℕ) (draws : List ℕ) (read left :
     area-kept = put-length (left * n) k wf area fits len
 
     of-stopped : (E : Drawn Best) (s : Stop) (next : ℕ) → O ≡ ofBest m E → based.Stopped s ≡ basedOf (length rows) next E
-        → Begins O n m left (read + needOf repeats m) (begun.Stopped s) wi wi wf wf₁
+        → Starts O n m left (read + needOf repeats m) (begun.Stopped s) wi wi wf wf₁
     of-stopped (drawn nothing rest) s next e a =
         let z : s ≡ ClusteringFailed = cc in
         rw e (record { answer-is = ap begun.Stopped z; starts = tt; behind = refl; beyond = area-beyond })
@@ -133,7 +133,7 @@ module _ (book : List Float) (n m repeats : ℕ) (draws : List ℕ) (read left :
         rw e (record { answer-is = ap begun.Stopped z; starts = tt; behind = refl; beyond = area-beyond })
 
     pub stopped-law : (s : Stop) {next : ℕ} {o z : List ℕ} {q : List Float} → BasedBy (length rows) D next (based.Stopped s) o z q
-        → Begins O n m left (read + needOf repeats m) (begun.Stopped s) wi wi wf wf₁
+        → Starts O n m left (read + needOf repeats m) (begun.Stopped s) wi wi wf wf₁
     stopped-law s {next} h = of-stopped D s next opened (h .answer-is)
 
   -- what is known of a base of g groups, after which `next` draws are read
@@ -172,9 +172,9 @@ module _ (book : List Float) (n m repeats : ℕ) (draws : List ℕ) (read left :
 
     -- the base has been stored, and its weak items marked
     pub started-law : (wf₁ : List Float) (wi₁ : List ℕ) (wf₂ : List Float) (gr it : ℕ) (wi₂ : List ℕ) → drop limit wf₁ ≡ drop limit wf → Stored n o z q wi wi₁ wf₁ wf₂
-        → Marked n (length q) (stateOf g z o q) gr it wi₁ wi₂ → Begins O n m left (read + needOf repeats m) (begun.Base g gr it next) wi wi₂ wf wf₂
+        → WeakFound n (length q) (stateOf g z o q) gr it wi₁ wi₂ → Starts O n m left (read + needOf repeats m) (begun.Base g gr it next) wi wi₂ wf wf₂
     started-law wf₁ wi₁ wf₂ gr it wi₂ area S M′ =
-        let M : Marked n m (B .base) gr it wi₁ wi₂ = rw (← state-is, ← lq) M′ in
+        let M : WeakFound n m (B .base) gr it wi₁ wi₂ = rw (← state-is, ← lq) M′ in
         let rows-first : take m wi₁ ≡ take m wi = front-less n m wi₁ wi (P .reads .items) (S .rows-kept) in
         rw (B .starts-as) (record {
           answer-is = rw (B .count, M .groups-are, M .items-are, B .next-is) refl;

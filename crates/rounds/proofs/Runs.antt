@@ -19,7 +19,7 @@ use Rattle.quality.specs.Quality.{qualitiesOf, weakCount}
 use Rattle.candidates.specs.Candidates.{Candidate, Best, nothing, found, bestOf}
 use Rattle.base.specs.Base.{baseOf}
 use Rattle.improve.specs.Improve.{weakItems}
-use Rattle.rounds.specs.Round.{Run, done, ended, Opening, started, unstarted, ofBest, openingOf, afterOpening, roundOf, needOf, rowsOf, settled}
+use Rattle.rounds.specs.Round.{Run, done, ended, Opening, started, unstarted, ofBest, openingOf, afterOpening, roundOf, needOf, rowsOf, afterInner}
 use Rattle.scoring.proofs.Laws.{scores-length}
 use Rattle.partition.proofs.Groups.{groups-partition}
 use Rattle.candidates.proofs.Laws.{best-took, Found}
@@ -46,7 +46,7 @@ module _ (book : List Float) (n repeats left : ℕ) (rows : List ℕ) (read : �
 
     pub round-again : 2 < weakIn base
         → roundOf book n repeats (suc left) rows read ds
-        ≡ settled (distAt book n rows) (length rows) base (roundOf book n repeats left (rowsOf rows (weakItems base)) (read + needOf repeats (length rows)) rest)
+        ≡ afterInner (distAt book n rows) (length rows) base (roundOf book n repeats left (rowsOf rows (weakItems base)) (read + needOf repeats (length rows)) rest)
     unfolding roundOf afterOpening
     round-again h = rw (e, lt-leb (weakIn base) 2 h)
 
@@ -93,7 +93,7 @@ module _ (book : List Float) (n repeats left : ℕ) (rows : List ℕ) (read : �
   Before = (rows : List ℕ) (read : ℕ) (ds : List ℕ) → 2 ≤ length rows → Whole (length rows) (roundOf book n repeats left rows read ds)
 
   inner-whole : (base : State) → Partition (length rows) (base .groups) → length (base .scores) ≡ length rows → (r : Run) → Whole (length (weakItems base)) r
-      → Whole (length rows) (settled (distAt book n rows) (length rows) base r)
+      → Whole (length rows) (afterInner (distAt book n rows) (length rows) base r)
   inner-whole base h l (ended s ms) w = tt
   inner-whole base h l (done s ms last rest) w = (
     better-partition (distAt book n rows) (length rows) base (s .groups) h (w .0),
@@ -101,7 +101,7 @@ module _ (book : List Float) (n repeats left : ℕ) (rows : List ℕ) (read : �
   )
 
   started-whole : Before → (base : State) (rest : List ℕ) → Partition (length rows) (base .groups) → length (base .scores) ≡ length rows → (t : Bool) → leb (weakIn base) 2 ≡ t
-      → Whole (length rows) (cond t (done base (length rows ∷ []) read rest) (settled (distAt book n rows) (length rows) base (roundOf book n repeats left (rowsOf rows (weakItems base)) read rest)))
+      → Whole (length rows) (cond t (done base (length rows ∷ []) read rest) (afterInner (distAt book n rows) (length rows) base (roundOf book n repeats left (rowsOf rows (weakItems base)) read rest)))
   started-whole ih base rest h l true e = (h, l)
   started-whole ih base rest h l false e =
       let long : length (rowsOf rows (weakItems base)) ≡ length (weakItems base) = length-map (weakItems base) (numbers rows) in

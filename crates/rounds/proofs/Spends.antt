@@ -22,7 +22,7 @@ use Rattle.partition.specs.Partition.{State}
 use Rattle.candidates.specs.Candidates.{Candidate, Best, nothing, found, bestOf}
 use Rattle.base.specs.Base.{baseOf}
 use Rattle.improve.specs.Improve.{weakItems, betterOf}
-use Rattle.rounds.specs.Round.{Run, done, ended, Opening, started, unstarted, ofBest, openingOf, afterOpening, roundOf, needOf, rowsOf, settled, totalOf}
+use Rattle.rounds.specs.Round.{Run, done, ended, Opening, started, unstarted, ofBest, openingOf, afterOpening, roundOf, needOf, rowsOf, afterInner, totalOf}
 use Rattle.candidates.proofs.Laws.{best-took, best-behind, Found}
 use Rattle.improve.proofs.Merged.{weak-few, weak-many}
 use Rattle.rounds.proofs.Runs.{weakIn, OpeningTook, opening-took, round-kept, round-again}
@@ -285,7 +285,7 @@ module _ (book : List Float) (n repeats left : ℕ) (rows : List ℕ) (read : �
 
     -- the claim of the round within, carried out
     inner-spends : 2 < weakIn base → (r : Run) → Spends book n repeats left inner (read + c) rest r
-        → Spends book n repeats (suc left) rows read ds (settled (distAt book n rows) m base r)
+        → Spends book n repeats (suc left) rows read ds (afterInner (distAt book n rows) m base r)
     inner-spends h (ended Rounds ms) s =
         record {
           count = omega (arith, s .count);
@@ -359,7 +359,7 @@ module _ (book : List Float) (n repeats left : ℕ) (rows : List ℕ) (read : �
               let front : take c ds′ ≡ take c ds = part-front (c + k) 0 c ds′ ds (omega arith) e′ in
               let later : take k (drop c ds′) ≡ take k rest = part-front (c + k) c k ds′ ds (omega arith) e′ ∙ ap (take k) (sym (T .2)) in
               round-again book n repeats left rows read ds′ base (drop c ds′) (opening-same book n repeats rows read some ds ds′ base rest (T .3) front o) h
-              ∙ ap (settled (distAt book n rows) m base) (s .same (drop c ds′) later)
+              ∙ ap (afterInner (distAt book n rows) m base) (s .same (drop c ds′) later)
               ∙ ap (λ (l : List ℕ). done (betterOf (distAt book n rows) m base (b .groups)) (m ∷ ms) last l) (drop-drop k c ds′ ∙ ap (λ (i : ℕ). drop i ds′) (sym z));
         }
 
@@ -419,7 +419,7 @@ module _ (book : List Float) (n repeats left : ℕ) (rows : List ℕ) (read : �
 
   started-spends : Before → (base : State) (rest : List ℕ) → openingOf book n repeats rows read ds ≡ started base rest → (t : Bool) → leb (weakIn base) 2 ≡ t
       → Spends book n repeats (suc left) rows read ds
-      (cond t (done base (m ∷ []) (read + c) rest) (settled (distAt book n rows) m base (roundOf book n repeats left (rowsOf rows (weakItems base)) (read + c) rest)))
+      (cond t (done base (m ∷ []) (read + c) rest) (afterInner (distAt book n rows) m base (roundOf book n repeats left (rowsOf rows (weakItems base)) (read + c) rest)))
   started-spends ih base rest o true e = kept-spends base rest o (leb-true (weakIn base) 2 e)
   started-spends ih base rest o false e =
       let h : 2 < weakIn base = leb-false (weakIn base) 2 e in

@@ -7,7 +7,7 @@ use lib.Ieee.{Float}
 use Rattle.partition.specs.Partition.{State, Partition, joined}
 use Rattle.partition.specs.Orders.{Sized, sizesOf, cut}
 use Rattle.partition.proofs.Cuts.{cut-joined, sized-of, groups-few}
-use Rattle.improve.specs.Steps.{stateOf, Parted}
+use Rattle.improve.specs.Steps.{stateOf, PartitionLists}
 
 module _ (m : ℕ) (s : State) (few : m ≤ 256) (p : Partition m (s .groups)) {count : ℕ} {order sizes : List ℕ} (c : count ≡ length (s .groups))
     (o : order ≡ joined (s .groups)) (z : sizes ≡ sizesOf m (s .groups)) where
@@ -20,7 +20,7 @@ module _ (m : ℕ) (s : State) (few : m ≤ 256) (p : Partition m (s .groups)) {
   pub stands-state : {scores : List Float} → scores ≡ s .scores → stateOf count sizes order scores ≡ s
   stands-state q = rw (stands-cut, q) refl
 
-  pub stands-parted : Parted m count order sizes
+  pub stands-parted : PartitionLists m count order sizes
   stands-parted = record { sized = stands-sized; parts = rw stands-cut p }
 
   -- no size stands behind those of the groups

@@ -16,7 +16,7 @@ use Rattle.quality.proofs.Splits.{picked-below, picked-fewer}
 use Rattle.improve.specs.Improve.{weakItems}
 use Rattle.improve.specs.Steps.{stateOf, Weakened}
 use Rattle.rounds.specs.Round.{rowsOf}
-use Rattle.rounds.specs.Steps.{Room, Stored, Marking, Placed, Marked}
+use Rattle.rounds.specs.Steps.{Room, Stored, StoresRows, RowsStored, WeakFound}
 
 -- the base in its places; k and j are the lengths of the parts as the code has them
 module _ (n : ℕ) (order sizes : List ℕ) (scores : List Float) (wi : List ℕ) (wf : List Float) (R : Room n (length order) wi wf) (same : length sizes ≡ length order)
@@ -48,14 +48,14 @@ module _ (n : ℕ) (order sizes : List ℕ) (scores : List Float) (wi : List ℕ
   stored-law k j ek ej eo es eq = rw (ek, ej, eo, es, eq) plain
 
 -- the rows of items, behind the base
-module _ (n m : ℕ) (items wi : List ℕ) (M : Marking n m items wi) where
+module _ (n m : ℕ) (items wi : List ℕ) (M : StoresRows n m items wi) where
   room : 3 * n + length items ≤ length wi
   room = omega (arith, M .fewer, M .room)
 
   long : length (rowsOf (take m wi) items) ≡ length items
   long = length-map items (numbers (take m wi))
 
-  placed : Placed n m items wi (put (3 * n) (length items) wi (rowsOf (take m wi) items))
+  placed : RowsStored n m items wi (put (3 * n) (length items) wi (rowsOf (take m wi) items))
   placed =
       let rows = rowsOf (take m wi) items in
       record {
@@ -64,7 +64,7 @@ module _ (n m : ℕ) (items wi : List ℕ) (M : Marking n m items wi) where
         behind = put-drop (3 * n) (length items) wi rows room long (4 * n) (omega (arith, M .fewer));
       }
 
-  pub placed-law : (k : ℕ) {r rows : List ℕ} → k ≡ length items → r ≡ rows → rows ≡ map (numbers (take m wi)) items → Placed n m items wi (put (3 * n) k wi r)
+  pub placed-law : (k : ℕ) {r rows : List ℕ} → k ≡ length items → r ≡ rows → rows ≡ map (numbers (take m wi)) items → RowsStored n m items wi (put (3 * n) k wi r)
   placed-law k ek er e = rw (ek, er, e) placed
 
 -- the weak items of groups that fill an order are no more than its items, and each is one of them
@@ -90,12 +90,12 @@ module _ (s : State) (g w : ℕ) (mean : Float) (list list′ : List ℕ) (W : W
   pub front-items : take w list′ ≡ weakItems s
   front-items = ap (take w) (W .listed-are) ∙ take-at (weakItems s) (drop (length (weakItems s)) list) w (sym (W .items-are))
 
-  pub marked-law : (n m : ℕ) (wi wi′ : List ℕ) → Placed n m (take w list′) wi wi′ → Marked n m s g w wi wi′
+  pub marked-law : (n m : ℕ) (wi wi′ : List ℕ) → RowsStored n m (take w list′) wi wi′ → WeakFound n m s g w wi wi′
   marked-law n m wi wi′ P =
-      let Q : Placed n m (weakItems s) wi wi′ = subst (λ (l : List ℕ). Placed n m l wi wi′) front-items P in
+      let Q : RowsStored n m (weakItems s) wi wi′ = subst (λ (l : List ℕ). RowsStored n m l wi wi′) front-items P in
       record { groups-are = W .groups-are; items-are = W .items-are; rows-at = Q .rows-at; front = Q .front; behind = Q .behind }
 
   pub marking : (n m : ℕ) (wi : List ℕ) → m ≤ n → n ≤ 256 → length (weakItems s) ≤ m → ((j : ℕ) → j < length (weakItems s) → numbers (weakItems s) j < m) → 4 * n ≤ length wi
-      → Marking n m (take w list′) wi
+      → StoresRows n m (take w list′) wi
   marking n m wi within few fewer below room =
       rw front-items (record { within = within; few = few; fewer = omega (arith, fewer, within); below = below; room = room })

@@ -45,9 +45,9 @@ openingOf book n repeats rows read ds =
     (ofBest (length rows) (bestOf (distAt book n rows) (length rows) repeats read ds))
 
 -- the round after its re-clustering: m is the number of its items
-abbrev pub settled : (ℕ → ℕ → Float) → ℕ → State → Run → Run
-settled x m base (done inner ms read rest) = done (betterOf x m base (inner .groups)) (m ∷ ms) read rest
-settled x m base (ended s ms) = ended s (m ∷ ms)
+abbrev pub afterInner : (ℕ → ℕ → Float) → ℕ → State → Run → Run
+afterInner x m base (done inner ms read rest) = done (betterOf x m base (inner .groups)) (m ∷ ms) read rest
+afterInner x m base (ended s ms) = ended s (m ∷ ms)
 
 -- the rows of the items, as rows of the book
 abbrev pub rowsOf : List ℕ → List ℕ → List ℕ
@@ -59,7 +59,7 @@ afterOpening again book n rows read (unstarted s ms) = ended s ms
 afterOpening again book n rows read (started base rest) =
     cond (leb (weakCount (qualitiesOf (base .scores) (base .groups))) 2)
     (done base (length rows ∷ []) read rest)
-    (settled (distAt book n rows) (length rows) base (again (rowsOf rows (weakItems base)) read rest))
+    (afterInner (distAt book n rows) (length rows) base (again (rowsOf rows (weakItems base)) read rest))
 
 -- a round, with `left` rounds left: 9 where there is none
 unfoldable pub roundOf : List Float → ℕ → ℕ → ℕ → List ℕ → ℕ → List ℕ → Run

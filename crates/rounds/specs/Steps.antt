@@ -12,8 +12,8 @@ use Rattle.partition.specs.Partition.{State, joined}
 use Rattle.partition.specs.Orders.{sizesOf}
 use Rattle.quality.specs.Quality.{qualitiesOf, weakCount}
 use Rattle.improve.specs.Improve.{weakItems}
-use Rattle.rounds.specs.declared.Begun.{Begun}
-use Rattle.rounds.specs.declared.Begun.the-variants as begun
+use Rattle.rounds.specs.declared.RoundStart.{RoundStart}
+use Rattle.rounds.specs.declared.RoundStart.the-variants as begun
 use Rattle.rounds.specs.Round.{Opening, started, unstarted, rowsOf, needOf}
 
 -- the book, the rows of the round's m items at the front of its numbers, and the draws
@@ -34,7 +34,7 @@ pub record BaseAt (n m : ℕ) (s : State) (wi : List ℕ) (wf : List Float) : Ty
   pub scores-at : take m wf ≡ s .scores
 
 -- the answer of a start: how many groups the base has, how many are weak, how many items those have, and the draws read
-abbrev pub begunOf : ℕ → Opening → Begun
+abbrev pub begunOf : ℕ → Opening → RoundStart
 begunOf read (started s rest) = begun.Base (length (s .groups)) (weakCount (qualitiesOf (s .scores) (s .groups))) (length (weakItems s)) read
 begunOf read (unstarted s ms) = begun.Stopped s
 
@@ -44,7 +44,7 @@ Starts (started s rest) n m rows wi wf =
     (take m wi ≡ rows) × BaseAt n m s wi wf × (part (3 * n) (length (weakItems s)) wi ≡ rowsOf rows (weakItems s))
 Starts (unstarted s ms) n m rows wi wf = Unit
 
-pub record Begins (o : Opening) (n m left read : ℕ) (a : Begun) (wi wi′ : List ℕ) (wf wf′ : List Float) : Type 0 where
+pub record Starts (o : Opening) (n m left read : ℕ) (a : RoundStart) (wi wi′ : List ℕ) (wf wf′ : List Float) : Type 0 where
   pub answer-is : a ≡ begunOf read o
   pub starts : Starts o n m (take m wi) wi′ wf′
   pub behind : drop (4 * n) wi′ ≡ drop (4 * n) wi
@@ -67,20 +67,20 @@ pub record Stored (n : ℕ) (order sizes : List ℕ) (scores : List Float) (wi w
   pub beyond : drop n wf′ ≡ drop n wf
 
 -- items of a round over m, and a place for their rows
-pub record Marking (n m : ℕ) (items wi : List ℕ) : Type 0 where
+pub record StoresRows (n m : ℕ) (items wi : List ℕ) : Type 0 where
   pub within : m ≤ n
   pub few : n ≤ 256
   pub fewer : length items ≤ n
   pub below : (j : ℕ) → j < length items → numbers items j < m
   pub room : 4 * n ≤ length wi
 
-pub record Placed (n m : ℕ) (items wi wi′ : List ℕ) : Type 0 where
+pub record RowsStored (n m : ℕ) (items wi wi′ : List ℕ) : Type 0 where
   pub rows-at : part (3 * n) (length items) wi′ ≡ rowsOf (take m wi) items
   pub front : take (3 * n) wi′ ≡ take (3 * n) wi
   pub behind : drop (4 * n) wi′ ≡ drop (4 * n) wi
 
 -- the weak groups of s, their items, and the rows of these
-pub record Marked (n m : ℕ) (s : State) (groups items : ℕ) (wi wi′ : List ℕ) : Type 0 where
+pub record WeakFound (n m : ℕ) (s : State) (groups items : ℕ) (wi wi′ : List ℕ) : Type 0 where
   pub groups-are : groups ≡ weakCount (qualitiesOf (s .scores) (s .groups))
   pub items-are : items ≡ length (weakItems s)
   pub rows-at : part (3 * n) (length (weakItems s)) wi′ ≡ rowsOf (take m wi) (weakItems s)
@@ -88,7 +88,7 @@ pub record Marked (n m : ℕ) (s : State) (groups items : ℕ) (wi wi′ : List 
   pub behind : drop (4 * n) wi′ ≡ drop (4 * n) wi
 
 -- a book whose round may start: there are draws enough
-pub record Opens (book : List Float) (n m repeats : ℕ) (draws : List ℕ) (read left : ℕ) (wi : List ℕ) (wf : List Float) : Type 0 where
+pub record MayStart (book : List Float) (n m repeats : ℕ) (draws : List ℕ) (read left : ℕ) (wi : List ℕ) (wf : List Float) : Type 0 where
   pub reads : Book book n m repeats draws read wi
   pub enough : read + needOf repeats m ≤ length draws
   pub one : 1 ≤ left

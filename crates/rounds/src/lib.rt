@@ -5,13 +5,13 @@ ghost use lib.ListN.{length, take, drop};
 ghost use Rattle.partition.specs.Orders.{Sized};
 ghost use Rattle.improve.specs.Steps.{stateOf};
 ghost use Rattle.rounds.specs.Round.{openingOf, needOf};
-ghost use Rattle.rounds.specs.Steps.{Book, Begins, Opens, Room, Stored, Marking, Marked, Placed};
+ghost use Rattle.rounds.specs.Steps.{Book, Starts, MayStart, Room, Stored, StoresRows, WeakFound, RowsStored};
 use base::Based;
 use draws::Stop;
 use improve::Weak;
 
 // How many groups the base has, how many of them are weak, how many items those have, and the draws read; or what ends the run.
-pub enum Begun {
+pub enum RoundStart {
     Base(usize, usize, usize, usize),
     Stopped(Stop),
 }
@@ -39,8 +39,8 @@ fn store_base(
 
 // The rows of the items, as rows of the book, at the front of the numbers of the round below; `rows` is a list to work in.
 fn store_rows(n: usize, m: usize, items: &[usize], rows: &mut [usize], wi: &mut [usize])
-    requires { ⌜ Marking n m (now items) (now wi) × (length (now rows) ≡ length (now items)) ⌝ }
-    ensures { λ _. ⌜ Placed n m (now (items .entry)) (now (wi .entry)) (now (wi .exit)) ⌝ }
+    requires { ⌜ StoresRows n m (now items) (now wi) × (length (now rows) ≡ length (now items)) ⌝ }
+    ensures { λ _. ⌜ RowsStored n m (now (items .entry)) (now (wi .entry)) (now (wi .exit)) ⌝ }
 {
     choice::translate(&wi[..m], items, rows);
     let from = 3 * n;
@@ -49,7 +49,7 @@ fn store_rows(n: usize, m: usize, items: &[usize], rows: &mut [usize], wi: &mut 
 }
 
 // The weak items of the base, and their rows at the front of the numbers of the round below; `items` and `rows` are lists to work in.
-fn mark_with(
+fn find_weak_with(
     n: usize,
     count: usize,
     order: &[usize],
@@ -61,7 +61,7 @@ fn mark_with(
 ) -> Weak
     requires { ⌜ Sized (length (now scores)) count (now order) (now sizes) × (length (now scores) ≤ n) × (n ≤ 256) × (4 * n ≤ length (now wi))
         × (length (now items) ≡ length (now scores)) × (length (now rows) ≡ length (now scores)) ⌝ }
-    ensures { λ r. ⌜ Marked n (length (now (scores .entry))) (stateOf count (now (sizes .entry)) (now (order .entry)) (now (scores .entry))) (r .groups) (r .items) (now (wi .entry)) (now (wi .exit)) ⌝ }
+    ensures { λ r. ⌜ WeakFound n (length (now (scores .entry))) (stateOf count (now (sizes .entry)) (now (order .entry)) (now (scores .entry))) (r .groups) (r .items) (now (wi .entry)) (now (wi .exit)) ⌝ }
 {
     let m = scores.len();
     let weak = improve::weak_items(order, sizes, count, scores, items);
@@ -70,7 +70,7 @@ fn mark_with(
     weak
 }
 
-fn mark(
+fn find_weak(
     n: usize,
     count: usize,
     order: &[usize],
@@ -79,12 +79,12 @@ fn mark(
     wi: &mut [usize],
 ) -> Weak
     requires { ⌜ Sized (length (now scores)) count (now order) (now sizes) × (length (now scores) ≤ n) × (n ≤ 256) × (4 * n ≤ length (now wi)) ⌝ }
-    ensures { λ r. ⌜ Marked n (length (now (scores .entry))) (stateOf count (now (sizes .entry)) (now (order .entry)) (now (scores .entry))) (r .groups) (r .items) (now (wi .entry)) (now (wi .exit)) ⌝ }
+    ensures { λ r. ⌜ WeakFound n (length (now (scores .entry))) (stateOf count (now (sizes .entry)) (now (order .entry)) (now (scores .entry))) (r .groups) (r .items) (now (wi .entry)) (now (wi .exit)) ⌝ }
 {
     let m = scores.len();
     let mut items = lists::number_buffer();
     let mut rows = lists::number_buffer();
-    mark_with(
+    find_weak_with(
         n,
         count,
         order,
@@ -97,7 +97,7 @@ fn mark(
 }
 
 // The round's base and its weak items, where there are draws enough; `order`, `sizes` and `scores` are lists to work in.
-fn open_with(
+fn start_with(
     book: &[f64],
     n: usize,
     repeat: usize,
@@ -109,9 +109,9 @@ fn open_with(
     order: &mut [usize],
     sizes: &mut [usize],
     scores: &mut [f64],
-) -> Begun
-    requires { ⌜ Opens (now book) n (length (now order)) repeat (now draws) read left (now wi) (now wf) × (length (now sizes) ≡ length (now order)) × (length (now scores) ≡ length (now order)) ⌝ }
-    ensures { λ r. ⌜ Begins (openingOf (now (book .entry)) n repeat (take (length (now (order .entry))) (now (wi .entry))) read (drop read (now (draws .entry)))) n (length (now (order .entry))) left
+) -> RoundStart
+    requires { ⌜ MayStart (now book) n (length (now order)) repeat (now draws) read left (now wi) (now wf) × (length (now sizes) ≡ length (now order)) × (length (now scores) ≡ length (now order)) ⌝ }
+    ensures { λ r. ⌜ Starts (openingOf (now (book .entry)) n repeat (take (length (now (order .entry))) (now (wi .entry))) read (drop read (now (draws .entry)))) n (length (now (order .entry))) left
         (read + needOf repeat (length (now (order .entry)))) r (now (wi .entry)) (now (wi .exit)) (now (wf .entry)) (now (wf .exit)) ⌝ }
 {
     let m = order.len();
@@ -129,17 +129,17 @@ fn open_with(
         sizes,
         scores,
     ) {
-        Based::Stopped(s) => Begun::Stopped(s),
+        Based::Stopped(s) => RoundStart::Stopped(s),
         Based::Done(groups, next) => {
             store_base(n, order, sizes, scores, wi, wf);
-            let weak = mark(n, groups, order, sizes, scores, wi);
-            Begun::Base(groups, weak.groups, weak.items, next)
+            let weak = find_weak(n, groups, order, sizes, scores, wi);
+            RoundStart::Base(groups, weak.groups, weak.items, next)
         }
     }
 }
 
 // The start of a round over m items: 7 where there are too few draws, else its base and its weak items. Inner form.
-pub fn begin(
+pub fn start_round(
     book: &[f64],
     n: usize,
     m: usize,
@@ -149,19 +149,19 @@ pub fn begin(
     left: usize,
     wi: &mut [usize],
     wf: &mut [f64],
-) -> Begun
+) -> RoundStart
     requires { ⌜ Book (now book) n m repeat (now draws) read (now wi) × (1 ≤ left) × (left ≤ 32) × (4 * n ≤ length (now wi)) × (left * n + 5 * (n * n) ≤ length (now wf)) ⌝ }
-    ensures { λ r. ⌜ Begins (openingOf (now (book .entry)) n repeat (take m (now (wi .entry))) read (drop read (now (draws .entry)))) n m left
+    ensures { λ r. ⌜ Starts (openingOf (now (book .entry)) n repeat (take m (now (wi .entry))) read (drop read (now (draws .entry)))) n m left
         (read + needOf repeat m) r (now (wi .entry)) (now (wi .exit)) (now (wf .entry)) (now (wf .exit)) ⌝ }
 {
     let need = repeat * (draws::draws_for(m) as usize);
     if draws.len() - read < need {
-        return Begun::Stopped(Stop::Short(read));
+        return RoundStart::Stopped(Stop::Short(read));
     }
     let mut order = lists::number_buffer();
     let mut sizes = lists::number_buffer();
     let mut scores = lists::row_buffer();
-    open_with(
+    start_with(
         book,
         n,
         repeat,

@@ -15,15 +15,15 @@ use Rattle.distance.specs.Distance.{Readable, distAt}
 use Rattle.partition.specs.Partition.{State, Partition, joined}
 use Rattle.partition.specs.Orders.{sizesOf, cut}
 use Rattle.improve.specs.Improve.{weakItems, betterOf}
-use Rattle.improve.specs.Steps.{stateOf, Parted, Improvable}
+use Rattle.improve.specs.Steps.{stateOf, PartitionLists, Improvable}
 use Rattle.improve.proofs.Merged.{weak-few, weak-below, weak-many}
 use Rattle.top.specs.declared.Top.{Top}
 use Rattle.top.specs.declared.Top.the-variants.{Done, Stopped}
-use Rattle.rounds.specs.declared.Begun.{Begun}
-use Rattle.rounds.specs.declared.Begun.the-variants as begun
-use Rattle.rounds.specs.Round.{Run, done, ended, Opening, started, unstarted, openingOf, roundOf, needOf, rowsOf, settled}
-use Rattle.rounds.specs.Steps.{Begins, Starts, BaseAt, begunOf}
-use Rattle.settling.specs.Settling.{Unsettled, Settled}
+use Rattle.rounds.specs.declared.RoundStart.{RoundStart}
+use Rattle.rounds.specs.declared.RoundStart.the-variants as begun
+use Rattle.rounds.specs.Round.{Run, done, ended, Opening, started, unstarted, openingOf, roundOf, needOf, rowsOf, afterInner}
+use Rattle.rounds.specs.Steps.{Starts, Starts, BaseAt, begunOf}
+use Rattle.round_end.specs.Steps.{InnerEnded, RoundEnded}
 use Rattle.top.specs.Steps.{Ready, Rounded, topOf, orderAfter, sizesAfter, scoresAfter}
 use Rattle.rounds.proofs.Runs.{weakIn, OpeningTook, opening-took, Whole, whole, round-none, round-refused, round-kept, round-again}
 use Rattle.rounds.proofs.Standing.{stands-state, stands-cut, stands-parted, stands-plain}
@@ -84,7 +84,7 @@ module _ (book : List Float) (n repeats : ℕ) (draws : List ℕ) (read left : �
     few = omega (arith, R .reads .items, R .reads .few)
 
     -- once the round has begun
-    module _ (a₁ : Begun) (wi₁ : List ℕ) (wf₁ : List Float) (B : Begins O n m left (read + needOf repeats m) a₁ wi wi₁ wf wf₁) where
+    module _ (a₁ : RoundStart) (wi₁ : List ℕ) (wf₁ : List Float) (B : Starts O n m left (read + needOf repeats m) a₁ wi wi₁ wf wf₁) where
       behind-number : drop last-number wi₁ ≡ drop last-number wi
       behind-number = drop-behind (4 * n) last-number wi₁ wi (omega (arith, size)) (B .behind)
 
@@ -243,14 +243,14 @@ module _ (book : List Float) (n repeats : ℕ) (draws : List ℕ) (read left : �
 
           -- the round after its re-clustering, by the definition
           abbrev after : Run → Run
-          after r = settled (distAt book n rows) m (S .base) r
+          after r = afterInner (distAt book n rows) m (S .base) r
 
           run-is : run ≡ after inner
           run-is =
               let many : 2 < weakIn (S .base) = omega (arith, more, S .weak-is) in
               ap (λ (x : ℕ). roundOf book n repeats x rows read (drop read draws)) is-suc
               ∙ round-again book n repeats (left - 1) rows read (drop read draws) (S .base) (S .rest) (S .opened) many
-              ∙ ap (λ (x : ℕ). settled (distAt book n rows) x (S .base) (roundOf book n repeats (left - 1) (rowsOf rows (weakItems (S .base))) (read + needOf repeats x) (S .rest))) rows-len
+              ∙ ap (λ (x : ℕ). afterInner (distAt book n rows) x (S .base) (roundOf book n repeats (left - 1) (rowsOf rows (weakItems (S .base))) (read + needOf repeats x) (S .rest))) rows-len
               ∙ ap (λ (x : ℕ). after (roundOf book n repeats (left - 1) (rowsOf rows (weakItems (S .base))) x (S .rest))) (sym (S .told))
               ∙ ap (λ (x : List ℕ). after (roundOf book n repeats (left - 1) (rowsOf rows (weakItems (S .base))) a x)) (S .rest-is)
               ∙ ap (λ (x : List ℕ). after (roundOf book n repeats (left - 1) x a (drop a draws))) (sym front-rows)
@@ -338,7 +338,7 @@ module _ (book : List Float) (n repeats : ℕ) (draws : List ℕ) (read left : �
               pub ms : List ℕ
               pub left-over : List ℕ
               pub ended-as : inner ≡ done state ms last left-over
-              pub inside : Parted w g (take w order₂) (take w sizes₂)
+              pub inside : PartitionLists w g (take w order₂) (take w sizes₂)
               pub groups-are : cut g (take w sizes₂) (take w order₂) ≡ state .groups
 
             of-done : (r : Run) (g last : ℕ) → inner ≡ r → Whole w r → b ≡ Done g last → b ≡ topOf r → lo ≡ orderAfter r (take w order)
@@ -370,7 +370,7 @@ module _ (book : List Float) (n repeats : ℕ) (draws : List ℕ) (read left : �
               improvable =
                   record {
                     base = stands-parted m (S .base) few (S .parts) (S .count) order₄ sizes₄;
-                    inside = subst (λ (x : ℕ). Parted x g (take w order₂) (take w sizes₂)) items₄ (N .inside);
+                    inside = subst (λ (x : ℕ). PartitionLists x g (take w order₂) (take w sizes₂)) items₄ (N .inside);
                     weak = refl;
                     any = omega (arith, R .reads .two);
                   }
@@ -386,8 +386,8 @@ module _ (book : List Float) (n repeats : ℕ) (draws : List ℕ) (read left : �
                         rw (getD-take m wi k 0 l) (R .reads .rows k l);
                   })
 
-              pub unsettled-law : Unsettled book n left groups g w order₂ sizes₂ scores₂ wi₄ wf₄
-              unsettled-law =
+              pub inner-ended-law : InnerEnded book n left groups g w order₂ sizes₂ scores₂ wi₄ wf₄
+              inner-ended-law =
                   record {
                     readable = rw len₂ readable;
                     items = rw len₂ (R .reads .items);
@@ -418,7 +418,7 @@ module _ (book : List Float) (n repeats : ℕ) (draws : List ℕ) (read left : �
                   ∙ ap (λ (x : State). betterOf (distAt book n rows) m x gs) state-is
                   ∙ ap (λ (x : List (List ℕ)). betterOf (distAt book n rows) m (S .base) x) (N .groups-are)
 
-              pub done-law : (r : ℕ) (order′ sizes′ : List ℕ) (scores′ wf₅ : List Float) → Settled better n left r (length order₂) order′ sizes′ scores′ wf₄ wf₅
+              pub done-law : (r : ℕ) (order′ sizes′ : List ℕ) (scores′ wf₅ : List Float) → RoundEnded better n left r (length order₂) order′ sizes′ scores′ wf₄ wf₅
                   → Rounded run n left (Done r last) order order′ sizes sizes′ scores scores′ wi wi₄ wf wf₅
               done-law r order′ sizes′ scores′ wf₅ T =
                   let e : run ≡ done (betterOf (distAt book n rows) m (S .base) (N .state .groups)) (m ∷ N .ms) last (N .left-over) = run-is ∙ ap after (N .ended-as) in

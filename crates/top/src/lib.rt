@@ -8,7 +8,7 @@ ghost use Rattle.rounds.specs.Round.{roundOf};
 ghost use Rattle.rounds.specs.Steps.{Room};
 ghost use Rattle.top.specs.Steps.{Ready, Rounded};
 use draws::Stop;
-use rounds::Begun;
+use rounds::RoundStart;
 
 // How many groups, and the draws read; or what ends the run.
 pub enum Top {
@@ -62,9 +62,9 @@ pub fn cluster_kmeans_top(
         return Top::Stopped(Stop::Rounds);
     }
     let m = order.len();
-    match rounds::begin(book, n, m, repeat, draws, read, left, &mut *wi, &mut *wf) {
-        Begun::Stopped(s) => Top::Stopped(s),
-        Begun::Base(groups, weak, w, after) => {
+    match rounds::start_round(book, n, m, repeat, draws, read, left, &mut *wi, &mut *wf) {
+        RoundStart::Stopped(s) => Top::Stopped(s),
+        RoundStart::Base(groups, weak, w, after) => {
             if weak <= 2 {
                 keep(n, order, sizes, scores, &wi[..], &wf[..]);
                 return Top::Done(groups, after);
@@ -85,7 +85,7 @@ pub fn cluster_kmeans_top(
             ) {
                 Top::Stopped(t) => Top::Stopped(t),
                 Top::Done(inner, last) => {
-                    let g = settling::settle(
+                    let g = round_end::end_round(
                         book,
                         n,
                         left,

@@ -22,11 +22,11 @@ loop-holds c = (search needs, refl, refl)
 sub-i : tie.Need-sub-i Inv-loop μ-loop
 sub-i c = search needs
 
-rem-glyph : tie.Need-rem-glyph Inv-loop μ-loop
-rem-glyph c = c .before .before .before .pre .0
+rem-digit-byte : tie.Need-rem-digit-byte Inv-loop μ-loop
+rem-digit-byte c = c .before .before .before .pre .0
 
-glyph-requires : tie.Need-glyph-requires Inv-loop μ-loop
-glyph-requires c κs = omega (arith, mod-lt (c .before .loop .rest) (c .before .before .before .pre .0))
+digit-byte-requires : tie.Need-digit-byte-requires Inv-loop μ-loop
+digit-byte-requires c κs = omega (arith, mod-lt (c .before .loop .rest) (c .before .before .before .pre .0))
 
 add-out : tie.Need-add-out Inv-loop μ-loop
 add-out c = search needs
@@ -41,7 +41,7 @@ loop-less : tie.Need-loop-less Inv-loop μ-loop
 loop-less c = search needs
 
 loop-again : tie.Need-loop-again Inv-loop μ-loop
-loop-again c = (search needs, simp length-set (c .before .before .loop .inv .1), c .before .before .loop .inv .2 ∙ digit-stored _ _ _ _ _ (c .before .loop-test .taken) (c .glyph .ensures))
+loop-again c = (search needs, simp length-set (c .before .before .loop .inv .1), c .before .before .loop .inv .2 ∙ digit-stored _ _ _ _ _ (c .before .loop-test .taken) (c .digit-byte .ensures))
 
 same-length : tie.Need-same-length Inv-loop μ-loop
 same-length c = c .before .loop .inv .1
@@ -59,8 +59,8 @@ put-digits-spec =
     μ-loop
     loop-holds
     sub-i
-    rem-glyph
-    glyph-requires
+    rem-digit-byte
+    digit-byte-requires
     add-out
     slice-write-out
     div-rest

@@ -1,5 +1,5 @@
 use borrow.Author.Needs.{needs}
-use Rattle.harness_exports.proofs.Told.{not-told, telling, three-places}
+use Rattle.harness_exports.proofs.Reported.{refused-as-is, reported, three-places}
 use Rattle.harness_exports.proofs.onc_lloyd.Statement.{statement}
 use Rattle.harness_exports.proofs.onc_lloyd.Tie as tie
 
@@ -7,13 +7,13 @@ answer-refused-requires : tie.Need-answer-refused-requires
 answer-refused-requires c κs = search needs
 
 returns : tie.Need-returns
-returns c = not-told _ _ _ _ _ _ _ (c .before .answer-refused .ensures) (c .if1 .taken)
+returns c = refused-as-is _ _ _ _ _ _ _ (c .before .answer-refused .ensures) (c .if1 .taken)
 
 lloyd-requires : tie.Need-lloyd-requires
 lloyd-requires c κs = search needs
 
-tell-requires : tie.Need-tell-requires
-tell-requires c κs = three-places _ _ _ (c .before .before .before .before .before .before .before .before .before .before .before .before .answer-refused .ensures) (c .before .before .before .before .before .before .before .before .before .before .before .if1 .left)
+report-requires : tie.Need-report-requires
+report-requires c κs = three-places _ _ _ (c .before .before .before .before .before .before .before .before .before .before .before .before .answer-refused .ensures) (c .before .before .before .before .before .before .before .before .before .before .before .if1 .left)
 
 same-length : tie.Need-same-length
 same-length c = search needs
@@ -28,7 +28,7 @@ same-length-4 : tie.Need-same-length-4
 same-length-4 c = search needs
 
 returns-2 : tie.Need-returns-2
-returns-2 c = telling _ _ _ (c .before .before .before .before .before .before .before .before .before .before .before .before .before .before .before .before .before .before .before .before .before .before .args .answer .now) _ _ _ (c .before .before .before .before .before .before .before .before .before .before .lloyd .result) (three-places _ _ _ (c .before .before .before .before .before .before .before .before .before .before .before .before .before .before .before .answer-refused .ensures) (c .before .before .before .before .before .before .before .before .before .before .before .before .before .before .if1 .left)) (c .before .before .before .before .before .before .before .before .before .before .lloyd .ensures) (c .before .before .tell .ensures .0) (c .before .before .tell .ensures .1)
+returns-2 c = reported _ _ _ (c .before .before .before .before .before .before .before .before .before .before .before .before .before .before .before .before .before .before .before .before .before .before .args .answer .now) _ _ _ (c .before .before .before .before .before .before .before .before .before .before .lloyd .result) (three-places _ _ _ (c .before .before .before .before .before .before .before .before .before .before .before .before .before .before .before .answer-refused .ensures) (c .before .before .before .before .before .before .before .before .before .before .before .before .before .before .if1 .left)) (c .before .before .before .before .before .before .before .before .before .before .lloyd .ensures) (c .before .before .report .ensures .0) (c .before .before .report .ensures .1)
 
 pub onc-lloyd-spec : {M : Type 1} → statement M
 onc-lloyd-spec =
@@ -37,7 +37,7 @@ onc-lloyd-spec =
     answer-refused-requires
     returns
     lloyd-requires
-    tell-requires
+    report-requires
     same-length
     same-length-2
     same-length-3

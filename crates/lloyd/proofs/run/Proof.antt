@@ -2,12 +2,12 @@ use Prim.Native.Nat.{_*_, _-_, _≤_}
 use mathlib.Core.Path.{_∙_, _≡_, refl, sym}
 use native.Mathlib.Omega.{arith}
 use lib.ListN.{length, take}
-use Rattle.lloyd.specs.Passes.{restsAt}
+use Rattle.lloyd.specs.Passes.{convergesAt}
 use Rattle.lists.specs.Lists.{firstTo, numbers}
 use Rattle.columns.specs.Columns.{pointsAt}
 use Rattle.lists.proofs.Listed.{listed-length}
 use Rattle.lloyd.specs.Area.{After}
-use Rattle.lloyd.proofs.Rounds.{after-dists, after-labels, after-more, come-to-rest, go-on, kept-now, run-out, table-now}
+use Rattle.lloyd.proofs.Rounds.{after-dists, after-labels, after-more, has-converged, go-on, kept-now, run-out, table-now}
 use Rattle.lloyd.proofs.Rows.{held-kept}
 use Rattle.lloyd.proofs.run.Statement.{statement}
 use Rattle.lloyd.proofs.run.Tie as tie
@@ -16,7 +16,7 @@ abbrev Inv-loop : tie.InvT-loop
 Inv-loop area₀ centres labels₀ fresh₀ dists₀ sums₀ k t₀ area labels fresh dists sums t =
     (k ≡ length centres) × (t ≤ 300) × (length labels ≡ length labels₀) × (length fresh ≡ length labels₀) × (length dists ≡ length labels₀) × (length sums ≡ length labels₀)
     × (length area ≡ 5 * (length labels₀ * length labels₀)) × (take (4 * (length labels₀ * length labels₀)) area ≡ take (4 * (length labels₀ * length labels₀)) area₀)
-    × (firstTo (restsAt (pointsAt area₀ (length labels₀)) (length labels₀) (length centres) (numbers centres)) t ≡ t)
+    × (firstTo (convergesAt (pointsAt area₀ (length labels₀)) (length labels₀) (length centres) (numbers centres)) t ≡ t)
     × After (pointsAt area₀ (length labels₀)) (length labels₀) centres t labels area
 
 abbrev μ-loop : tie.MeasureT-loop
@@ -53,7 +53,7 @@ returns c =
     let w = c .before .before .before .before .before .before .before .before .before .before .before .before .before .loop .inv .9 in
     let e = after-labels _ _ _ w (rw (c .before .before .before .before .before .before .before .before .before .before .before .before .before .loop .inv .3) at (c .before .before .before .before .before .before .before .before .assign-in .ensures .1)) in
     let g = listed-length _ _ e in
-    (come-to-rest _ m _ _ w e (omega (arith, c .before .before .before .before .before .before .before .before .before .before .before .before .loop-test .taken)) (c .before .before .before .before .before .before .before .before .before .before .before .before .before .loop .inv .8) (sym (rw g at (c .before .same-labels .ensures)) ∙ c .if1 .taken), c .before .before .before .before .before .before .before .before .before .before .before .before .before .loop .inv .7)
+    (has-converged _ m _ _ w e (omega (arith, c .before .before .before .before .before .before .before .before .before .before .before .before .loop-test .taken)) (c .before .before .before .before .before .before .before .before .before .before .before .before .before .loop .inv .8) (sym (rw g at (c .before .same-labels .ensures)) ∙ c .if1 .taken), c .before .before .before .before .before .before .before .before .before .before .before .before .before .loop .inv .7)
 
 refresh-requires : tie.Need-refresh-requires Inv-loop μ-loop
 refresh-requires c κs =

@@ -1,0 +1,44 @@
+-- The answer in a list of three numbers, and what a call for C gives and leaves.
+use Prim.Native.Nat.{ℕ}
+use mathlib.Core.Path.{_≡_, refl, _∙_, ap}
+use mathlib.Core.Bool.{true, false, cond}
+use mathlib.Core.List.{List, [], _∷_}
+use native.Mathlib.Omega.{arith}
+use borrow.Author.Tests.{eq-eqb}
+use lib.Dec.{eqb}
+use lib.ListN.{length, set}
+use lib.Ieee.{Float}
+use Rattle.lists.proofs.Tests.{impossible}
+use Rattle.refusals.specs.Table.{refusal}
+use Rattle.refusals.proofs.Laws.{accepted}
+use Rattle.kmeans_answers.specs.declared.Kmeans.{Kmeans}
+use Rattle.kmeans_answers.specs.Answers.{numberOf, placeOf, refusalOf, readOf}
+use Rattle.kmeans_answers.specs.Leaf.{Leaf}
+use Rattle.reports.proofs.Written.{places-are, refused-as}
+use Rattle.harness_exports.specs.Reported.{Reported, reportedOf}
+
+three : (xs : List ℕ) (a b c : ℕ) → length xs ≡ 3 → set (set (set xs 0 a) 1 b) 2 c ≡ a ∷ b ∷ c ∷ []
+three [] a b c h = absurd (omega arith)
+three (x ∷ []) a b c h = absurd (omega arith)
+three (x ∷ y ∷ []) a b c h = absurd (omega arith)
+three (x ∷ y ∷ z ∷ []) a b c h = refl
+three (x ∷ y ∷ z ∷ u ∷ us) a b c h = absurd (omega arith)
+
+pub three-written : (xs : List ℕ) {a b c n p r : ℕ} → length xs ≡ 3 → a ≡ n → b ≡ p → c ≡ r → set (set (set xs 0 a) 1 b) 2 c ≡ n ∷ p ∷ r ∷ []
+three-written xs {a} {b} {c} h e f g = three xs a b c h ∙ rw (e, f, g)
+
+-- the list for the answer has three places where it is not refused
+pub three-places : (cells n places : ℕ) {r : ℕ} → r ≡ cond (eqb places 3) 0 (refusal cells n n false 0 0 .number) → r ≡ 0 → places ≡ 3
+three-places cells n places e z = places-are 3 places (λ q. impossible (accepted cells n n false 0 0 (ap (λ (x : ℕ). eqb x 0) q) .fitting)) e z
+
+module _ (cells n : ℕ) (leaf : Leaf) (answer out : List ℕ) (floats : List Float) (numbers : List ℕ) where
+  pub reported : (a : Kmeans) {r : ℕ} {answer′ out′ numbers′ : List ℕ} {floats′ : List Float} → length answer ≡ 3
+      → record { answer = refusalOf a; read = readOf a; out = out′; floats = floats′; numbers = numbers′ } ≡ leaf → r ≡ numberOf a → answer′ ≡ numberOf a ∷ placeOf a ∷ readOf a ∷ []
+      → record { number = r; answer = answer′; out = out′; floats = floats′; numbers = numbers′ } ≡ reportedOf cells n leaf answer out floats numbers
+  unfolding reportedOf
+  reported a h e f g = rw (eq-eqb (length answer) 3 h, ← e, f, g)
+
+  pub refused-as-is : {r : ℕ} → r ≡ cond (eqb (length answer) 3) 0 (refusal cells n n false 0 0 .number) → (r ≡ 0 → ⊥)
+      → record { number = r; answer = answer; out = out; floats = floats; numbers = numbers } ≡ reportedOf cells n leaf answer out floats numbers
+  unfolding reportedOf
+  refused-as-is e h = refused-as (eqb (length answer) 3) (refusal cells n n false 0 0 .number) _ (λ q. record { number = q; answer = answer; out = out; floats = floats; numbers = numbers }) e h

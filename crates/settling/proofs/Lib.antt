@@ -1,2 +1,0 @@
--- From what the calls of `choose` and `settle` leave to what they ensure.
-pub mod Settling

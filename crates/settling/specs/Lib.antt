@@ -1,2 +1,0 @@
--- The end of a round: Settling.antt says what its functions ask and leave. The choice itself is `betterOf`, improve/specs/Improve.antt.
-pub mod Settling
