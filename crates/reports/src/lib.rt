@@ -12,7 +12,13 @@ use onc_answers::Onc;
 use stats::Average;
 
 // 0 where the list for the answer has four places; else the number by which the grouping is refused: 1, 2, 4, 5 or 6.
-pub fn grouping_refused(repeat: usize, rows: usize, cols: usize, cells: usize, places: usize) -> usize
+pub fn grouping_refused(
+    repeat: usize,
+    rows: usize,
+    cols: usize,
+    cells: usize,
+    places: usize,
+) -> usize
     ensures { λ r. ⌜ r ≡ cond (eqb places 4) 0 (shapeOf repeat rows cols cells false .number) ⌝ }
 {
     if places == 4 {

@@ -1,2 +1,2 @@
--- From what the calls of `choose` and `settle` leave to what they ensure.
-pub mod Steps
+-- From what the calls of `choose` and `end_round` leave to what they ensure.
+pub mod Ends

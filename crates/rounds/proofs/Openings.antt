@@ -1,4 +1,4 @@
--- `begin`, in plain lists: from what its calls leave to what it ensures.
+-- `start_round`, in plain lists: from what its calls leave to what it ensures.
 use Prim.Native.Nat.{ℕ, zero, suc, _+_, _-_, _*_, _<_, _≤_}
 use mathlib.Core.Path.{_≡_, refl, sym, _∙_, ap, subst}
 use mathlib.Core.List.{List, []}

@@ -1,4 +1,4 @@
--- One more group settled, and the scores when every group is.
+-- One group more, and the scores after every group.
 use Prim.Native.Nat.{ℕ, zero, suc, _+_, _-_, _*_, _<_, _≤_}
 use mathlib.Core.Path.{_≡_, refl, sym, _∙_, ap}
 use mathlib.Core.Bool.{Bool, true, false, cond, _&&_}
@@ -147,7 +147,7 @@ module _ (across : List Float) (labels : List ℕ) where
   by-lone true a b = score-low a
   by-lone false a b = refl
 
-  -- each label is below k: every group is settled
+  -- each label is below k: every group has been passed
   pub scores-done : (k : ℕ) {scores own out : List Float} → Midway across labels k scores own → ((i : ℕ) → i < n → name i < k) → k ≤ n
       → out ≡ listed (λ i. scoreOf (cells own i) (cells scores i)) (length scores) → out ≡ scoresAcross across labels
   unfolding scoreFrom

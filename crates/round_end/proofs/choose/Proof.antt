@@ -3,7 +3,7 @@ use mathlib.Core.Bool.{false, true}
 use mathlib.Core.List.{List}
 use lib.Ieee.{Float, lt}
 use borrow.Author.Needs.{needs}
-use Rattle.round_end.proofs.Settling.{kept-length, kept-list}
+use Rattle.round_end.proofs.Ends.{kept-length, kept-list}
 use Rattle.round_end.proofs.choose.Statement.{statement}
 use Rattle.round_end.proofs.choose.Tie as tie
 

@@ -8,7 +8,7 @@ use lib.Ieee.{lt}
 use borrow.Author.Needs.{needs}
 use Rattle.lists.specs.Lists.{part}
 use Rattle.lists.proofs.Parts.{part-length}
-use Rattle.round_end.proofs.Settling.{improve-asked, end-round-area, end-round-kept, end-round-law, end-round-part, end-round-rows, end-round-scores, end-round-word, weak-asked}
+use Rattle.round_end.proofs.Ends.{improve-asked, end-round-area, end-round-kept, end-round-law, end-round-part, end-round-rows, end-round-scores, end-round-word, weak-asked}
 use Rattle.round_end.proofs.end_with.Statement.{statement}
 use Rattle.round_end.proofs.end_with.Tie as tie
 

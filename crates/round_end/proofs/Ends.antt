@@ -1,4 +1,4 @@
--- `settle` and `choose`, in plain lists: from what their calls leave to what they ensure.
+-- `end_with` and `choose`, in plain lists: from what their calls leave to what they ensure.
 use Prim.Native.Nat.{ℕ, _+_, _*_, _≤_}
 use mathlib.Core.Path.{_≡_, refl, sym, _∙_, ap}
 use mathlib.Core.List.{List}
