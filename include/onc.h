@@ -51,7 +51,7 @@ typedef char onc_size_t_has_64_bits[sizeof(size_t) == 8 ? 1 : -1];
 
 /*
  * The numbers, in the order in which they are asked; the place of each is 0 unless one is named. 9, 7, 8 and 3 come as the run meets them.
- * No call below gives 11, 29, 10 or 30: they belong to calls on texts, to the leaves of k-means and to groupings that are handed in.
+ * No call below gives 11, 29, 10 or 30: 11 is for texts, 29 and 10 for calls below the grouping, and 30 is kept for calls that are handed a grouping.
  */
 enum onc_number {
     ONC_DONE = 0,                       /* not refused */
