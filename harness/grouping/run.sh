@@ -1,19 +1,21 @@
 #!/usr/bin/env bash
 # Compares the proved library with the unchanged Rust: whole runs; the statistics, the intake check and the counts of draws. Runs it on a
-# small stack; times both sides; counts their instructions; records runs of the Rust; and compares what the grouping program prints.
+# small stack; times both sides; counts their instructions; records runs of the Rust; compares the cases of `examples` with the Rust; and
+# compares what the grouping program prints.
 #   SOURCES=dir bash harness/grouping/run.sh runs [SEED] [BOOKS]
 #   SOURCES=dir bash harness/grouping/run.sh statistics [SEED] [CALLS]
 #   SOURCES=dir bash harness/grouping/run.sh stack [KIB]
 #   SOURCES=dir bash harness/grouping/run.sh time [RUNS]
 #   SOURCES=dir bash harness/grouping/run.sh count [NAMES]
 #   SOURCES=dir bash harness/grouping/run.sh record > crates/replay_runs/stdin
+#   SOURCES=dir bash harness/grouping/run.sh vectors
 #   SOURCES=dir bash harness/grouping/run.sh texts [SEED] [TEXTS]
 #   SOURCES=dir bash harness/grouping/run.sh record-texts > crates/texts/stdin
 # SOURCES names the folder with the Rust's onc.rs; VENDOR a folder of vendored crates (harness/oracle/README.md).
 # WORK is where all is built (target/harness); LIBRARIES the archives to link instead of those that `rt staticlib` writes of `exports` and
 # `harness_exports`; PROGRAM the grouping program to run instead of the one that `rt check grouping` writes. `count` takes valgrind.
 set -euo pipefail
-case ${1:-} in runs | statistics | stack | time | count | record | texts | record-texts) ;; *) sed -n '2,15s/^# //p' "$0" && exit 2 ;; esac
+case ${1:-} in runs | statistics | stack | time | count | record | vectors | texts | record-texts) ;; *) sed -n '2,17s/^# //p' "$0" && exit 2 ;; esac
 cd "$(dirname "${BASH_SOURCE[0]}")/../.."
 work=${WORK:-target/harness}
 mkdir -p "$work"
@@ -29,6 +31,10 @@ case $1 in
   record)
     build record
     exec "$work/build/release/record"
+    ;;
+  vectors)
+    build vectors
+    exec "$work/build/release/vectors" < crates/examples/stdin
     ;;
   texts | record-texts)
     build texts

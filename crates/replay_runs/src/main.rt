@@ -35,10 +35,10 @@ struct Case {
 }
 
 // Each list comes from a function: a literal array would stand in every goal, cell by cell.
-fn text_buffer() -> [u8; 1048576]
-    ensures { λ r. ⌜ 1048576 ≡ length r ⌝ }
+fn text_buffer() -> [u8; 1310720]
+    ensures { λ r. ⌜ 1310720 ≡ length r ⌝ }
 {
-    [0; 1048576]
+    [0; 1310720]
 }
 
 fn cell_buffer() -> [f64; 144]
@@ -104,10 +104,10 @@ fn draws_at(text: &[u8], at: usize, n: usize) -> [u64; 2048]
 
 // The case at `at`: eleven words, and the expected answer after its cells and draws.
 fn read_case(text: &[u8], at: usize) -> Case
-    requires { ⌜ at ≤ 61680 ⌝ }
+    requires { ⌜ at ≤ 77101 ⌝ }
     ensures { λ r. ⌜ r ≡ caseAt (now (text .entry)) at ⌝ }
     ensures { λ r. ⌜ (r .cells ≤ 144) × (r .draws ≤ 2048) × (r .order ≤ 16) × (r .sizes ≤ 16) × (r .scores ≤ 16) × (r .ordered ≤ 256) × (r .floats ≤ 4400) × (r .numbers ≤ 4000)
-        × (at + 11 ≤ r .expected) × (r .expected ≤ 63883) ⌝ }
+        × (at + 11 ≤ r .expected) × (r .expected ≤ 79304) ⌝ }
 {
     let cells = words::size_from(text, at, 3, 144);
     let draws = words::size_from(text, at, 4, 2048);
@@ -152,7 +152,7 @@ fn same_outputs(
     scores: &[f64],
     ordered: &[f64],
 ) -> bool
-    requires { ⌜ (c .expected ≤ 63883) × (c .order ≤ 16) × (c .sizes ≤ 16) × (c .scores ≤ 16) ⌝ }
+    requires { ⌜ (c .expected ≤ 79304) × (c .order ≤ 16) × (c .sizes ≤ 16) × (c .scores ≤ 16) ⌝ }
     ensures { λ r. ⌜ r ≡ sameOutputs (now (text .entry)) c (now (order .entry)) (now (sizes .entry)) (now (scores .entry)) (now (ordered .entry)) ⌝ }
 {
     let order_at = c.expected + 4;
@@ -182,7 +182,7 @@ fn same_run(
     floats: &[f64],
     numbers: &[usize],
 ) -> bool
-    requires { ⌜ (c .expected ≤ 63883) × (c .order ≤ 16) × (c .sizes ≤ 16) × (c .scores ≤ 16) ⌝ }
+    requires { ⌜ (c .expected ≤ 79304) × (c .order ≤ 16) × (c .sizes ≤ 16) × (c .scores ≤ 16) ⌝ }
     ensures { λ r. ⌜ r ≡ rightRun (now (text .entry)) c (record {
       answer = answerOf a;
       lists = record {
@@ -218,7 +218,7 @@ fn right_run(
     floats: &mut [f64],
     numbers: &mut [usize],
 ) -> bool
-    requires { ⌜ (c .expected ≤ 63883) × (c .order ≤ 16) × (c .sizes ≤ 16) × (c .scores ≤ 16) ⌝ }
+    requires { ⌜ (c .expected ≤ 79304) × (c .order ≤ 16) × (c .sizes ≤ 16) × (c .scores ≤ 16) ⌝ }
     ensures { λ r. ⌜ r ≡ rightRun (now (text .entry)) c (groupOf (now (cells .entry)) (c .rows) (c .cols) (c .repeat) (now (draws .entry)) (record {
       order = now (order .entry);
       sizes = now (sizes .entry);
@@ -255,7 +255,7 @@ fn right_worked(
     scores: &mut [f64],
     ordered: &mut [f64],
 ) -> bool
-    requires { ⌜ (c .expected ≤ 63883) × (c .order ≤ 16) × (c .sizes ≤ 16) × (c .scores ≤ 16) × (c .floats ≤ 4400) × (c .numbers ≤ 4000) ⌝ }
+    requires { ⌜ (c .expected ≤ 79304) × (c .order ≤ 16) × (c .sizes ≤ 16) × (c .scores ≤ 16) × (c .floats ≤ 4400) × (c .numbers ≤ 4000) ⌝ }
     ensures { λ r. ⌜ r ≡ rightRun (now (text .entry)) c (groupOf (now (cells .entry)) (c .rows) (c .cols) (c .repeat) (now (draws .entry)) (record {
       order = now (order .entry);
       sizes = now (sizes .entry);
@@ -285,7 +285,7 @@ fn right_worked(
 
 // The same, on outputs of the case's lengths.
 fn right_lists(text: &[u8], c: Case, cells: &[f64], draws: &[u64]) -> bool
-    requires { ⌜ (c .expected ≤ 63883) × (c .order ≤ 16) × (c .sizes ≤ 16) × (c .scores ≤ 16) × (c .floats ≤ 4400) × (c .numbers ≤ 4000) × (c .ordered ≤ 256) ⌝ }
+    requires { ⌜ (c .expected ≤ 79304) × (c .order ≤ 16) × (c .sizes ≤ 16) × (c .scores ≤ 16) × (c .floats ≤ 4400) × (c .numbers ≤ 4000) × (c .ordered ≤ 256) ⌝ }
     ensures { λ r. ⌜ r ≡ rightLists (now (text .entry)) c (now (cells .entry)) (now (draws .entry)) ⌝ }
 {
     let mut order = number_buffer();
@@ -310,8 +310,8 @@ fn right_lists(text: &[u8], c: Case, cells: &[f64], draws: &[u64]) -> bool
 
 // Reads the case's cells and draws, and runs it.
 fn right_case(text: &[u8], at: usize, c: Case) -> bool
-    requires { ⌜ (at ≤ 61680) × (c .cells ≤ 144) × (c .draws ≤ 2048) ⌝ }
-    requires { ⌜ (c .expected ≤ 63883) × (c .order ≤ 16) × (c .sizes ≤ 16) × (c .scores ≤ 16) × (c .floats ≤ 4400) × (c .numbers ≤ 4000) × (c .ordered ≤ 256) ⌝ }
+    requires { ⌜ (at ≤ 77101) × (c .cells ≤ 144) × (c .draws ≤ 2048) ⌝ }
+    requires { ⌜ (c .expected ≤ 79304) × (c .order ≤ 16) × (c .sizes ≤ 16) × (c .scores ≤ 16) × (c .floats ≤ 4400) × (c .numbers ≤ 4000) × (c .ordered ≤ 256) ⌝ }
     ensures { λ r. ⌜ r ≡ rightCase (now (text .entry)) at c ⌝ }
 {
     let n_cells = c.cells;
@@ -325,7 +325,7 @@ fn right_case(text: &[u8], at: usize, c: Case) -> bool
 
 // Runs every case of the text, and reports those that differ; kind 0: there is only one.
 fn run(text: &[u8]) -> Counts
-    requires { ⌜ length (now text) ≤ 1048576 ⌝ }
+    requires { ⌜ length (now text) ≤ 1310720 ⌝ }
     ensures { λ r. ⌜ (r .cases ≡ casesIn (now (text .entry))) × (r .differ ≡ differIn (now (text .entry))) ⌝ }
 {
     let words = text.len() / 17;

@@ -17,8 +17,8 @@ use Rattle.replay_runs.proofs.run.Tie as tie
 abbrev Inv-loop : tie.InvT-loop
 Inv-loop text words at₀ cases₀ differ₀ at cases differ =
     (words ≡ length text / 17)
-    × (words ≤ 61680)
-    × (at ≤ 64191)
+    × (words ≤ 77101)
+    × (at ≤ 79612)
     × (cases ≤ at)
     × (cases ≤ words)
     × (differ ≤ cases)

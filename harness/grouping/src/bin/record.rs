@@ -84,6 +84,37 @@ fn kept(call: &Call) -> bool {
     expected(call).outputs.is_some_and(|o| o[0] != order)
 }
 
+/// The examples that the source publishes of its grouping, with the groups that it names for them, by their least members.
+fn published(w: &mut Recorder) {
+    let book = |n: usize, group: &dyn Fn(usize) -> usize, within: f64, across: f64| {
+        let cell = |i: usize, j: usize| if i == j { 1.0 } else if group(i) == group(j) { within } else { across };
+        (0..n * n).map(|c| cell(c / n, c % n)).collect::<Vec<f64>>()
+    };
+    let threes = book(6, &|i| i / 3, 0.8, 0.1);
+    let parities = book(6, &|i| i % 2, 0.9, 0.0);
+    let fours = book(12, &|i| i / 4, 0.7, 0.1);
+    let mut run = |kind: &str, book: &[f64], repeat: usize, seed: u64, groups: &[&[u64]]| {
+        let (call, _) = seeded_by(seed, book.to_vec(), book.len().isqrt(), repeat);
+        let [order, sizes, scores, _] = expected(&call).outputs.expect("the source has a grouping");
+        let mut found: Vec<&[u64]> = Vec::new();
+        for &size in sizes.iter().filter(|&&size| size > 0) {
+            let from = found.iter().map(|g| g.len()).sum::<usize>();
+            found.push(&order[from..from + size as usize]);
+        }
+        found.sort();
+        assert_eq!(found, groups, "{kind}: not the groups that the source names");
+        w.call(kind, &call);
+        scores
+    };
+    let scores = run("two blocks of three names, the source's example", &threes, 3, 42, &[&[0, 1, 2], &[3, 4, 5]]);
+    assert!(scores.iter().all(|&s| f64::from_bits(s) > 0.5), "a score that the source calls greater than 0.5");
+    run("even and odd names, the source's example", &parities, 2, 42, &[&[0, 2, 4], &[1, 3, 5]]);
+    for seed in [42, 0, 1, 2, 3, 4] {
+        run("three blocks of four names, the source's example", &fours, 5, seed, &[&[0, 1, 2, 3], &[4, 5, 6, 7], &[8, 9, 10, 11]]);
+    }
+    w.call("even and odd names without repeats, the source's example", &Call::proper(parities, 6, 0, vec![]));
+}
+
 /// Worked examples, and refusals before the run.
 fn chosen(w: &mut Recorder) {
     let ones = |n: usize| vec![1.0; n * n];
@@ -95,8 +126,7 @@ fn chosen(w: &mut Recorder) {
     w.call("1 by 1", &proper(ones(1), 1, 1, vec![0]));
     w.call("all NaN", &proper(vec![f64::NAN; 4], 2, 1, vec![0, 0, 0]));
     w.call("two names apart", &proper(vec![1.0, 0.0, 0.0, 1.0], 2, 1, vec![0, 0, 1 << 52]));
-    let blocks = (0..36).map(|c| if c / 6 == c % 6 { 1.0 } else if c / 18 == c % 6 / 3 { 0.8 } else { 0.1 }).collect();
-    w.call("two blocks of three names, the source's example", &seeded_by(42, blocks, 6, 3).0);
+    published(w);
     for (rows, kind) in [(0, "no rows"), (256, "256 rows, no cells"), (257, "257 rows"), (usize::MAX, "2^64 - 1 rows")] {
         let lent = [0, 0, 0, 0, 9, 9, 4];
         let call = Call { book: vec![], rows, cols: rows, repeat: 1, draws: vec![0; 3], lent };
@@ -232,7 +262,7 @@ fn main() {
     chosen(&mut w);
     every_kind(&mut w, &mut r);
     several_rounds(&mut w, &mut r);
-    small_books(&mut w, &mut r, 320);
+    small_books(&mut w, &mut r, 322);
     for (kind, count) in &w.counts {
         eprintln!("{count:6} {kind}");
     }
