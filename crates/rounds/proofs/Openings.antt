@@ -24,9 +24,9 @@ use Rattle.base.specs.Base.{baseOf, basedOf, BasedBy, Leaves}
 use Rattle.base.specs.declared.Based.the-variants as based
 use Rattle.improve.specs.Improve.{weakItems}
 use Rattle.improve.specs.Steps.{stateOf}
-use Rattle.rounds.specs.declared.RoundStart.the-variants as begun
+use Rattle.rounds.specs.declared.RoundStart.the-variants as roundStart
 use Rattle.rounds.specs.Round.{Opening, started, unstarted, ofBest, openingOf, needOf, rowsOf}
-use Rattle.rounds.specs.Steps.{MayStart, Starts, Stored, WeakFound, Room}
+use Rattle.rounds.specs.Steps.{MayStart, RoundStarted, Stored, WeakFound, Room}
 use Rattle.rounds.proofs.Runs.{OpeningTook, opening-took}
 use Rattle.rounds.proofs.Standing.{stands-sized, stands-state}
 
@@ -123,17 +123,17 @@ module _ (book : List Float) (n m repeats : ℕ) (draws : List ℕ) (read left :
     area-kept = put-length (left * n) k wf area fits len
 
     of-stopped : (E : Drawn Best) (s : Stop) (next : ℕ) → O ≡ ofBest m E → based.Stopped s ≡ basedOf (length rows) next E
-        → Starts O n m left (read + needOf repeats m) (begun.Stopped s) wi wi wf wf₁
+        → RoundStarted O n m left (read + needOf repeats m) (roundStart.Stopped s) wi wi wf wf₁
     of-stopped (drawn nothing rest) s next e a =
         let z : s ≡ ClusteringFailed = cc in
-        rw e (record { answer-is = ap begun.Stopped z; starts = tt; behind = refl; beyond = area-beyond })
+        rw e (record { answer-is = ap roundStart.Stopped z; starts = tt; behind = refl; beyond = area-beyond })
     of-stopped (drawn (found c) rest) s next e a = let z : _≡_ {A = ℕ} 0 1 = cc in absurd (omega arith)
     of-stopped (refused p) s next e a =
         let z : s ≡ DrawOutOfRange p = cc in
-        rw e (record { answer-is = ap begun.Stopped z; starts = tt; behind = refl; beyond = area-beyond })
+        rw e (record { answer-is = ap roundStart.Stopped z; starts = tt; behind = refl; beyond = area-beyond })
 
     pub stopped-law : (s : Stop) {next : ℕ} {o z : List ℕ} {q : List Float} → BasedBy (length rows) D next (based.Stopped s) o z q
-        → Starts O n m left (read + needOf repeats m) (begun.Stopped s) wi wi wf wf₁
+        → RoundStarted O n m left (read + needOf repeats m) (roundStart.Stopped s) wi wi wf wf₁
     stopped-law s {next} h = of-stopped D s next opened (h .answer-is)
 
   -- what is known of a base of g groups, after which `next` draws are read
@@ -172,7 +172,7 @@ module _ (book : List Float) (n m repeats : ℕ) (draws : List ℕ) (read left :
 
     -- the base has been stored, and its weak items marked
     pub started-law : (wf₁ : List Float) (wi₁ : List ℕ) (wf₂ : List Float) (gr it : ℕ) (wi₂ : List ℕ) → drop limit wf₁ ≡ drop limit wf → Stored n o z q wi wi₁ wf₁ wf₂
-        → WeakFound n (length q) (stateOf g z o q) gr it wi₁ wi₂ → Starts O n m left (read + needOf repeats m) (begun.Base g gr it next) wi wi₂ wf wf₂
+        → WeakFound n (length q) (stateOf g z o q) gr it wi₁ wi₂ → RoundStarted O n m left (read + needOf repeats m) (roundStart.Base g gr it next) wi wi₂ wf wf₂
     started-law wf₁ wi₁ wf₂ gr it wi₂ area S M′ =
         let M : WeakFound n m (B .base) gr it wi₁ wi₂ = rw (← state-is, ← lq) M′ in
         let rows-first : take m wi₁ ≡ take m wi = front-less n m wi₁ wi (P .reads .items) (S .rows-kept) in

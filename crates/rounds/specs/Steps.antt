@@ -13,7 +13,7 @@ use Rattle.partition.specs.Orders.{sizesOf}
 use Rattle.quality.specs.Quality.{qualitiesOf, weakCount}
 use Rattle.improve.specs.Improve.{weakItems}
 use Rattle.rounds.specs.declared.RoundStart.{RoundStart}
-use Rattle.rounds.specs.declared.RoundStart.the-variants as begun
+use Rattle.rounds.specs.declared.RoundStart.the-variants as roundStart
 use Rattle.rounds.specs.Round.{Opening, started, unstarted, rowsOf, needOf}
 
 -- the book, the rows of the round's m items at the front of its numbers, and the draws
@@ -34,9 +34,9 @@ pub record BaseAt (n m : ℕ) (s : State) (wi : List ℕ) (wf : List Float) : Ty
   pub scores-at : take m wf ≡ s .scores
 
 -- the answer of a start: how many groups the base has, how many are weak, how many items those have, and the draws read
-abbrev pub begunOf : ℕ → Opening → RoundStart
-begunOf read (started s rest) = begun.Base (length (s .groups)) (weakCount (qualitiesOf (s .scores) (s .groups))) (length (weakItems s)) read
-begunOf read (unstarted s ms) = begun.Stopped s
+abbrev pub roundStartOf : ℕ → Opening → RoundStart
+roundStartOf read (started s rest) = roundStart.Base (length (s .groups)) (weakCount (qualitiesOf (s .scores) (s .groups))) (length (weakItems s)) read
+roundStartOf read (unstarted s ms) = roundStart.Stopped s
 
 -- what it leaves: the rows, the base, and the rows of the weak items at the front of the round below
 abbrev pub Starts : Opening → ℕ → ℕ → List ℕ → List ℕ → List Float → Type 0
@@ -44,8 +44,8 @@ Starts (started s rest) n m rows wi wf =
     (take m wi ≡ rows) × BaseAt n m s wi wf × (part (3 * n) (length (weakItems s)) wi ≡ rowsOf rows (weakItems s))
 Starts (unstarted s ms) n m rows wi wf = Unit
 
-pub record Starts (o : Opening) (n m left read : ℕ) (a : RoundStart) (wi wi′ : List ℕ) (wf wf′ : List Float) : Type 0 where
-  pub answer-is : a ≡ begunOf read o
+pub record RoundStarted (o : Opening) (n m left read : ℕ) (a : RoundStart) (wi wi′ : List ℕ) (wf wf′ : List Float) : Type 0 where
+  pub answer-is : a ≡ roundStartOf read o
   pub starts : Starts o n m (take m wi) wi′ wf′
   pub behind : drop (4 * n) wi′ ≡ drop (4 * n) wi
   pub beyond : drop (left * n + 5 * (n * n)) wf′ ≡ drop (left * n + 5 * (n * n)) wf

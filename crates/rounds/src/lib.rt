@@ -5,7 +5,7 @@ ghost use lib.ListN.{length, take, drop};
 ghost use Rattle.partition.specs.Orders.{Sized};
 ghost use Rattle.improve.specs.Steps.{stateOf};
 ghost use Rattle.rounds.specs.Round.{openingOf, needOf};
-ghost use Rattle.rounds.specs.Steps.{Book, Starts, MayStart, Room, Stored, StoresRows, WeakFound, RowsStored};
+ghost use Rattle.rounds.specs.Steps.{Book, RoundStarted, MayStart, Room, Stored, StoresRows, WeakFound, RowsStored};
 use base::Based;
 use draws::Stop;
 use improve::Weak;
@@ -111,7 +111,7 @@ fn start_with(
     scores: &mut [f64],
 ) -> RoundStart
     requires { ⌜ MayStart (now book) n (length (now order)) repeat (now draws) read left (now wi) (now wf) × (length (now sizes) ≡ length (now order)) × (length (now scores) ≡ length (now order)) ⌝ }
-    ensures { λ r. ⌜ Starts (openingOf (now (book .entry)) n repeat (take (length (now (order .entry))) (now (wi .entry))) read (drop read (now (draws .entry)))) n (length (now (order .entry))) left
+    ensures { λ r. ⌜ RoundStarted (openingOf (now (book .entry)) n repeat (take (length (now (order .entry))) (now (wi .entry))) read (drop read (now (draws .entry)))) n (length (now (order .entry))) left
         (read + needOf repeat (length (now (order .entry)))) r (now (wi .entry)) (now (wi .exit)) (now (wf .entry)) (now (wf .exit)) ⌝ }
 {
     let m = order.len();
@@ -151,7 +151,7 @@ pub fn start_round(
     wf: &mut [f64],
 ) -> RoundStart
     requires { ⌜ Book (now book) n m repeat (now draws) read (now wi) × (1 ≤ left) × (left ≤ 32) × (4 * n ≤ length (now wi)) × (left * n + 5 * (n * n) ≤ length (now wf)) ⌝ }
-    ensures { λ r. ⌜ Starts (openingOf (now (book .entry)) n repeat (take m (now (wi .entry))) read (drop read (now (draws .entry)))) n m left
+    ensures { λ r. ⌜ RoundStarted (openingOf (now (book .entry)) n repeat (take m (now (wi .entry))) read (drop read (now (draws .entry)))) n m left
         (read + needOf repeat m) r (now (wi .entry)) (now (wi .exit)) (now (wf .entry)) (now (wf .exit)) ⌝ }
 {
     let need = repeat * (draws::draws_for(m) as usize);

@@ -20,9 +20,9 @@ use Rattle.improve.proofs.Merged.{weak-few, weak-below, weak-many}
 use Rattle.top.specs.declared.Top.{Top}
 use Rattle.top.specs.declared.Top.the-variants.{Done, Stopped}
 use Rattle.rounds.specs.declared.RoundStart.{RoundStart}
-use Rattle.rounds.specs.declared.RoundStart.the-variants as begun
+use Rattle.rounds.specs.declared.RoundStart.the-variants as roundStart
 use Rattle.rounds.specs.Round.{Run, done, ended, Opening, started, unstarted, openingOf, roundOf, needOf, rowsOf, afterInner}
-use Rattle.rounds.specs.Steps.{Starts, Starts, BaseAt, begunOf}
+use Rattle.rounds.specs.Steps.{RoundStarted, Starts, BaseAt, roundStartOf}
 use Rattle.round_end.specs.Steps.{InnerEnded, RoundEnded}
 use Rattle.top.specs.Steps.{Ready, Rounded, topOf, orderAfter, sizesAfter, scoresAfter}
 use Rattle.rounds.proofs.Runs.{weakIn, OpeningTook, opening-took, Whole, whole, round-none, round-refused, round-kept, round-again}
@@ -84,11 +84,11 @@ module _ (book : List Float) (n repeats : ℕ) (draws : List ℕ) (read left : �
     few = omega (arith, R .reads .items, R .reads .few)
 
     -- once the round has begun
-    module _ (a₁ : RoundStart) (wi₁ : List ℕ) (wf₁ : List Float) (B : Starts O n m left (read + needOf repeats m) a₁ wi wi₁ wf wf₁) where
+    module _ (a₁ : RoundStart) (wi₁ : List ℕ) (wf₁ : List Float) (B : RoundStarted O n m left (read + needOf repeats m) a₁ wi wi₁ wf wf₁) where
       behind-number : drop last-number wi₁ ≡ drop last-number wi
       behind-number = drop-behind (4 * n) last-number wi₁ wi (omega (arith, size)) (B .behind)
 
-      of-refused : (o : Opening) (s : Stop) → O ≡ o → begun.Stopped s ≡ begunOf (read + needOf repeats m) o
+      of-refused : (o : Opening) (s : Stop) → O ≡ o → roundStart.Stopped s ≡ roundStartOf (read + needOf repeats m) o
           → Rounded run n left (Stopped s) order order sizes sizes scores scores wi wi₁ wf wf₁
       of-refused (started base rest) s e a = let z : _≡_ {A = ℕ} 0 1 = cc in absurd (omega arith)
       of-refused (unstarted q ms) s e a =
@@ -99,7 +99,7 @@ module _ (book : List Float) (n repeats : ℕ) (draws : List ℕ) (read left : �
           ∙ ap (λ (x : Stop). ended x ms) z in
           rw r (record { answer-is = refl; ordered = refl; sized = refl; scored = refl; behind = behind-number; beyond = B .beyond })
 
-      pub refused-law : (s : Stop) → a₁ ≡ begun.Stopped s → Rounded run n left (Stopped s) order order sizes sizes scores scores wi wi₁ wf wf₁
+      pub refused-law : (s : Stop) → a₁ ≡ roundStart.Stopped s → Rounded run n left (Stopped s) order order sizes sizes scores scores wi wi₁ wf wf₁
       refused-law s e = of-refused O s refl (sym e ∙ B .answer-is)
 
       -- what is known of a round that has started: its base of `groups` groups, `weak` of them weak, with w items, and a draws read
@@ -118,7 +118,7 @@ module _ (book : List Float) (n repeats : ℕ) (draws : List ℕ) (read left : �
         pub base-at : BaseAt n m base wi₁ wf₁
         pub rows-at : part (3 * n) w wi₁ ≡ rowsOf rows (weakItems base)
 
-      of-started : (o : Opening) (groups weak w a : ℕ) → O ≡ o → begun.Base groups weak w a ≡ begunOf (read + needOf repeats m) o
+      of-started : (o : Opening) (groups weak w a : ℕ) → O ≡ o → roundStart.Base groups weak w a ≡ roundStartOf (read + needOf repeats m) o
           → OpeningTook (needOf repeats m) (drop read draws) m o → Starts o n m rows wi₁ wf₁ → Started groups weak w a
       of-started (unstarted q ms) groups weak w a e b t s = let z : _≡_ {A = ℕ} 0 1 = cc in absurd (omega arith)
       of-started (started base rest) groups weak w a e b t s =
@@ -142,7 +142,7 @@ module _ (book : List Float) (n repeats : ℕ) (draws : List ℕ) (read left : �
             rows-at = ap (λ (x : ℕ). part (3 * n) x wi₁) ew ∙ s .2;
           }
 
-      pub started-law : (groups weak w a : ℕ) → a₁ ≡ begun.Base groups weak w a → Started groups weak w a
+      pub started-law : (groups weak w a : ℕ) → a₁ ≡ roundStart.Base groups weak w a → Started groups weak w a
       started-law groups weak w a e =
           let two : 2 ≤ length rows = omega (arith, rows-len, R .reads .two) in
           of-started O groups weak w a refl (sym e ∙ B .answer-is)
