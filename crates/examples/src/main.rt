@@ -1,16 +1,22 @@
 // Runs recorded cases through the leaves and counts those whose answer differs.
 // Standard input has one word a line, 16 hex digits. A case is eight words (leaf, n or ddof, the lengths of the two input
 // lists, of the output and of the working list, two items), the two lists, then the expected number, place, count of
-// values and values. harness/vectors.py writes the cases from definitions of its own.
-ghost use Prim.Native.Nat.{_+_, _≤_};
+// values and values. harness/vectors.py writes the cases from definitions of its own, and specs/Cases.antt says when one
+// is answered as expected.
+ghost use Prim.Native.Nat.{_<_, _≤_};
 ghost use mathlib.Core.Path.{_≡_};
-ghost use lib.ListN.{length};
+ghost use lib.ListN.{length, take, replicate};
+ghost use Rattle.refusals.specs.Table.{refusalOf};
+ghost use Rattle.stats.specs.Average.{averagedOf};
+ghost use Rattle.squared.specs.Leaves.{measuredOf};
+ghost use Rattle.words.specs.Words.{seven, doublesFrom, wordsFrom};
+ghost use Rattle.examples.specs.Cases.{caseAt, averageOf, measuredBy, firstRoot, half, valueOf, listOf, namesOf, sameOutcome, rightValue, rightLeaf, rightLists, rightCase, countsIn};
 use refusals::Answer;
 use squared::Squared;
 use stats::Average;
 use words::Counts;
 
-// The sizes of a case, and the word at which its expected answer starts.
+// The sizes of a case, the word at which its expected answer starts, and the one at which the next case does.
 struct Case {
     leaf: u64,
     n: usize,
@@ -21,19 +27,12 @@ struct Case {
     i: usize,
     j: usize,
     expected: usize,
+    next: usize,
 }
 
-// What a leaf answered: the table's number and place, and how many values; a single value beside them.
-struct Outcome {
-    number: u64,
-    place: u64,
-    count: u64,
-    value: f64,
-}
-
-// Each list comes from a function that promises its length alone: a literal array would stand in every goal, cell by cell.
+// Each list comes from a function: a literal array would stand in every goal, cell by cell.
 fn buffer() -> [f64; 144]
-    ensures { λ r. ⌜ 144 ≡ length r ⌝ }
+    ensures { λ r. ⌜ r ≡ replicate 144 seven ⌝ }
 {
     [7.0; 144]
 }
@@ -45,13 +44,13 @@ fn number_buffer() -> [usize; 144]
 }
 
 fn working_list() -> [f64; 8192]
-    ensures { λ r. ⌜ 8192 ≡ length r ⌝ }
+    ensures { λ r. ⌜ r ≡ replicate 8192 seven ⌝ }
 {
     [7.0; 8192]
 }
 
 fn many() -> [f64; 65537]
-    ensures { λ r. ⌜ 65537 ≡ length r ⌝ }
+    ensures { λ r. ⌜ r ≡ replicate 65537 half ⌝ }
 {
     [0.5; 65537]
 }
@@ -59,7 +58,7 @@ fn many() -> [f64; 65537]
 // n words from `at` on, as doubles and as numbers.
 fn doubles_at(text: &[u8], at: usize, n: usize) -> [f64; 144]
     requires { ⌜ n ≤ 144 ⌝ }
-    ensures { λ r. ⌜ 144 ≡ length r ⌝ }
+    ensures { λ r. ⌜ (144 ≡ length r) × (take n r ≡ doublesFrom (now (text .entry)) at n) ⌝ }
 {
     let mut xs = buffer();
     words::doubles(text, at, &mut xs[..n]);
@@ -68,160 +67,22 @@ fn doubles_at(text: &[u8], at: usize, n: usize) -> [f64; 144]
 
 fn numbers_at(text: &[u8], at: usize, n: usize) -> [usize; 144]
     requires { ⌜ n ≤ 144 ⌝ }
-    ensures { λ r. ⌜ 144 ≡ length r ⌝ }
+    ensures { λ r. ⌜ (144 ≡ length r) × (take n r ≡ wordsFrom (now (text .entry)) at n) ⌝ }
 {
     let mut xs = number_buffer();
     words::numbers(text, at, &mut xs[..n]);
     xs
 }
 
-// Whether the list has the patterns that the text has three words after `expected`.
-fn same_list(text: &[u8], expected: usize, xs: &[f64]) -> bool {
-    if expected > 100000 {
-        return false;
-    }
-    words::same_doubles(text, expected + 3, xs)
-}
-
-fn of_average(a: Average) -> Outcome {
-    match a {
-        Average::Value(x) => Outcome {
-            number: 0,
-            place: 0,
-            count: 1,
-            value: x,
-        },
-        Average::Empty => Outcome {
-            number: 0,
-            place: 0,
-            count: 0,
-            value: 0.0,
-        },
-        Average::TooMany => Outcome {
-            number: 4,
-            place: 0,
-            count: 0,
-            value: 0.0,
-        },
-    }
-}
-
-fn of_answer(a: Answer, count: u64) -> Outcome {
-    Outcome {
-        number: refusals::number_of(a) as u64,
-        place: refusals::place_of(a) as u64,
-        count,
-        value: 0.0,
-    }
-}
-
-fn of_squared(s: Squared) -> Outcome {
-    match s {
-        Squared::Value(x) => one_value(x),
-        Squared::Refused(a) => of_answer(a, 0),
-    }
-}
-
-fn one_value(x: f64) -> Outcome {
-    Outcome {
-        number: 0,
-        place: 0,
-        count: 1,
-        value: x,
-    }
-}
-
-// Leaves 2 to 6.
-fn average(leaf: u64, ddof: usize, a: &[f64]) -> Average {
-    match leaf {
-        2 => stats::mean(a),
-        3 => stats::variance(a, ddof),
-        4 => stats::std_dev(a, ddof),
-        5 => tstat::tstat(a),
-        _ => tstat::mean_of(a),
-    }
-}
-
-// Leaves 1 to 7: they answer one value, or none.
-fn call_value(leaf: u64, ddof: usize, a: &[f64], b: &[f64]) -> Outcome {
-    if leaf == 1 {
-        return root_of(a);
-    }
-    if leaf == 7 {
-        return one_value(squared::squared_distance(a, b));
-    }
-    of_average(average(leaf, ddof, a))
-}
-
-fn root_of(a: &[f64]) -> Outcome {
-    if a.len() == 0 {
-        return one_value(0.0);
-    }
-    one_value(sqrt::sqrt(a[0]))
-}
-
-// Leaves 8 to 10: they fill a list.
-fn call_plain(leaf: u64, n: usize, a: &[f64], rows: &[usize], out: &mut [f64]) -> Answer {
-    if leaf == 8 {
-        return distance::corr_to_distance(a, n, out);
-    }
-    if leaf == 9 {
-        return distance::corr_to_distance_through(a, n, rows, out);
-    }
-    distance::submatrix(a, n, rows, out)
-}
-
-// Leaves 11 to 13: they fill a list by the help of a working list.
-fn call_working(
-    leaf: u64,
-    n: usize,
-    a: &[f64],
-    rows: &[usize],
-    out: &mut [f64],
-    floats: &mut [f64],
-) -> Answer {
-    if leaf == 11 {
-        return pairwise::pairwise_distances(a, n, out, floats);
-    }
-    if leaf == 12 {
-        return pairwise::pairwise_distances_through(a, n, rows, out, floats);
-    }
-    silhouette::silhouette_from_pairwise(a, n, rows, out, floats)
-}
-
-fn call_list(
-    leaf: u64,
-    n: usize,
-    a: &[f64],
-    rows: &[usize],
-    out: &mut [f64],
-    floats: &mut [f64],
-) -> Answer {
-    if leaf < 11 {
-        return call_plain(leaf, n, a, rows, out);
-    }
-    call_working(leaf, n, a, rows, out, floats)
-}
-
-// Leaf 15: leaves 2 to 6, with ddof 0, over n values of 0.5, of which there may be one too many.
-fn call_many(which: usize, n: usize) -> Outcome {
-    if which > 4 {
-        return one_value(0.0);
-    }
-    if n > 65537 {
-        return one_value(0.0);
-    }
-    let values = many();
-    of_average(average(which as u64 + 2, 0, &values[..n]))
-}
-
 // The case at `at`: eight words, and the expected answer after its two lists.
 fn read_case(text: &[u8], at: usize) -> Case
     requires { ⌜ at ≤ 20000 ⌝ }
-    ensures { λ r. ⌜ (r .a ≤ 144) × (r .b ≤ 144) × (r .out ≤ 144) × (r .floats ≤ 8192) × (at + 8 ≤ r .expected) × (r .expected ≤ 20296) ⌝ }
+    ensures { λ r. ⌜ r ≡ caseAt (now (text .entry)) at ⌝ }
+    ensures { λ r. ⌜ (r .a ≤ 144) × (r .b ≤ 144) × (r .out ≤ 144) × (r .floats ≤ 8192) × (r .expected ≤ 20296) × (at < r .next) ⌝ }
 {
     let a = words::size_from(text, at, 2, 144);
     let b = words::size_from(text, at, 3, 144);
+    let expected = at + 8 + a + b;
     Case {
         leaf: words::word_from(text, at, 0),
         n: words::word_from(text, at, 1) as usize,
@@ -231,124 +92,189 @@ fn read_case(text: &[u8], at: usize) -> Case
         floats: words::size_from(text, at, 5, 8192),
         i: words::word_from(text, at, 6) as usize,
         j: words::word_from(text, at, 7) as usize,
-        expected: at + 8 + a + b,
+        expected,
+        next: expected + 3 + words::size_from(text, expected, 2, 144),
     }
 }
 
-// Where the case after one starts whose expected answer stands at `expected`.
-fn after(text: &[u8], expected: usize) -> usize
-    requires { ⌜ expected ≤ 20296 ⌝ }
-    ensures { λ r. ⌜ (expected ≤ r) × (r ≤ 20443) ⌝ }
+// An average as `squared_distance_through` answers; where there is none, nothing is refused.
+fn of_average(a: Average) -> Squared
+    ensures { λ r. ⌜ measuredOf r ≡ measuredBy (averagedOf a) ⌝ }
 {
-    expected + 3 + words::size_from(text, expected, 2, 144)
+    match a {
+        Average::Value(x) => Squared::Value(x),
+        Average::Empty => Squared::Refused(Answer::Done),
+        Average::TooMany => Squared::Refused(Answer::TooLarge),
+    }
 }
 
-// Whether the text has this number, place and count of values at `expected`.
-fn same_answer(text: &[u8], expected: usize, o: Outcome) -> bool {
-    if o.number != words::word_from(text, expected, 0) {
-        return false;
+// Leaves 2 to 6, by 0 to 4.
+fn average(which: u64, ddof: usize, a: &[f64]) -> Average
+    ensures { λ r. ⌜ averagedOf r ≡ averageOf which ddof (now (a .entry)) ⌝ }
+{
+    if which == 0 {
+        return stats::mean(a);
     }
-    if o.place != words::word_from(text, expected, 1) {
-        return false;
+    if which == 1 {
+        return stats::variance(a, ddof);
     }
-    o.count == words::word_from(text, expected, 2)
+    if which == 2 {
+        return stats::std_dev(a, ddof);
+    }
+    if which == 3 {
+        return tstat::tstat(a);
+    }
+    tstat::mean_of(a)
 }
 
-// Whether the single value, where there is one, is the one that the text has.
-fn same_value(text: &[u8], expected: usize, o: Outcome) -> bool {
-    if o.count == 0 {
-        return true;
+// Leaf 1.
+fn root_of(a: &[f64]) -> Squared
+    ensures { λ r. ⌜ measuredOf r ≡ firstRoot (now (a .entry)) ⌝ }
+{
+    if a.len() == 0 {
+        return Squared::Refused(Answer::Done);
     }
-    bits::bits_of(o.value) == words::word_from(text, expected, 3)
+    Squared::Value(sqrt::sqrt(a[0]))
 }
 
-// The front of its working list that a leaf leaves zero, by the number that it answered: a refused call leaves the list as
-// it was, and leaves 8 to 10 have none.
-fn front_of(c: Case, number: u64) -> usize {
-    if number != 0 {
-        return 0;
+// Leaf 15: leaves 2 to 6, with ddof 0, over n values of 0.5, of which there may be too many.
+fn call_many(which: u64, n: usize) -> Squared
+    ensures { λ r. ⌜ measuredOf r ≡ measuredBy (averageOf which 0 (replicate n half)) ⌝ }
+{
+    if n > 65537 {
+        return Squared::Refused(Answer::TooLarge);
     }
+    let values = many();
+    of_average(average(which, 0, &values[..n]))
+}
+
+// Leaves 1 to 7, 14 and 15: they answer one value, or none.
+fn call_value(c: Case, a: &[f64], b: &[f64], rows: &[usize]) -> Squared
+    ensures { λ r. ⌜ measuredOf r ≡ valueOf c (now (a .entry)) (now (b .entry)) (now (rows .entry)) ⌝ }
+{
+    if c.leaf < 2 {
+        return root_of(a);
+    }
+    if c.leaf < 7 {
+        return of_average(average(c.leaf - 2, c.n, a));
+    }
+    if c.leaf == 7 {
+        return Squared::Value(squared::squared_distance(a, b));
+    }
+    if c.leaf == 14 {
+        return squared::squared_distance_through(a, c.n, rows, c.i, c.j);
+    }
+    call_many(c.i as u64, c.n)
+}
+
+// Leaves 8 to 13: they fill a list, 11 to 13 by the help of a working list.
+fn call_list(c: Case, a: &[f64], rows: &[usize], out: &mut [f64], floats: &mut [f64]) -> Answer
+    ensures { λ r. ⌜ record { answer = refusalOf r; out = now (out .exit); floats = now (floats .exit) } ≡ listOf c (now (a .entry)) (now (rows .entry)) (now (out .entry)) (now (floats .entry)) ⌝ }
+{
+    if c.leaf == 8 {
+        return distance::corr_to_distance(a, c.n, out);
+    }
+    if c.leaf == 9 {
+        return distance::corr_to_distance_through(a, c.n, rows, out);
+    }
+    if c.leaf == 10 {
+        return distance::submatrix(a, c.n, rows, out);
+    }
+    if c.leaf == 11 {
+        return pairwise::pairwise_distances(a, c.n, out, floats);
+    }
+    if c.leaf == 12 {
+        return pairwise::pairwise_distances_through(a, c.n, rows, out, floats);
+    }
+    silhouette::silhouette_from_pairwise(a, c.n, rows, out, floats)
+}
+
+// How many names the working list is for: none for 8 to 10, the row numbers for 12.
+fn names_of(c: Case) -> usize
+    ensures { λ r. ⌜ r ≡ namesOf c ⌝ }
+{
     if c.leaf < 11 {
         return 0;
     }
     if c.leaf == 12 {
-        return words::front(c.b);
+        return c.b;
     }
-    words::front(c.n)
+    c.n
 }
 
-// Whether a leaf's answer, its output list and the working list are as expected.
-fn same_lists(text: &[u8], c: Case, answer: Answer, out: &[f64], floats: &[f64]) -> bool {
-    let o = of_answer(answer, c.out as u64);
-    if !same_answer(text, c.expected, o) {
+// Whether the text has this answer's number and place, the count of these values and their patterns at `expected`.
+fn same_outcome(text: &[u8], expected: usize, a: Answer, values: &[f64]) -> bool
+    requires { ⌜ expected ≤ 20296 ⌝ }
+    ensures { λ r. ⌜ r ≡ sameOutcome (now (text .entry)) expected (refusalOf a) (now (values .entry)) ⌝ }
+{
+    let answer = [refusals::number_of(a), refusals::place_of(a), values.len()];
+    if !words::same_numbers(text, expected, &answer) {
         return false;
     }
-    if !same_list(text, c.expected, out) {
-        return false;
-    }
-    words::left_doubles(floats, front_of(c, o.number))
+    words::same_doubles(text, expected + 3, values)
 }
 
-// Runs a leaf that fills a list, and compares what it left.
-fn right_lists(
+// Whether a leaf that answers one value or none answers what is expected.
+fn right_value(text: &[u8], c: Case, s: Squared) -> bool
+    requires { ⌜ c .expected ≤ 20296 ⌝ }
+    ensures { λ r. ⌜ r ≡ rightValue (now (text .entry)) c (measuredOf s) ⌝ }
+{
+    match s {
+        Squared::Value(x) => same_outcome(text, c.expected, Answer::Done, &[x]),
+        Squared::Refused(a) => same_outcome(text, c.expected, a, &[]),
+    }
+}
+
+// Runs a leaf that fills a list, and compares what it answers and leaves.
+fn right_leaf(
     text: &[u8],
     c: Case,
     a: &[f64],
     rows: &[usize],
     out: &mut [f64],
     floats: &mut [f64],
-) -> bool {
-    let answer = call_list(c.leaf, c.n, a, rows, out, floats);
-    same_lists(text, c, answer, out, floats)
+) -> bool
+    requires { ⌜ c .expected ≤ 20296 ⌝ }
+    ensures { λ r. ⌜ r ≡ rightLeaf (now (text .entry)) c (listOf c (now (a .entry)) (now (rows .entry)) (now (out .entry)) (now (floats .entry))) ⌝ }
+{
+    let answer = call_list(c, a, rows, out, floats);
+    if !same_outcome(text, c.expected, answer, out) {
+        return false;
+    }
+    let names = words::names_wiped(refusals::number_of(answer), names_of(c));
+    words::left_doubles(floats, words::front(names))
 }
 
 // The same, on lists of the case's sizes.
-fn right_list(text: &[u8], c: Case, a: &[f64], rows: &[usize]) -> bool
-    requires { ⌜ (c .out ≤ 144) × (c .floats ≤ 8192) ⌝ }
+fn right_lent(text: &[u8], c: Case, a: &[f64], rows: &[usize]) -> bool
+    requires { ⌜ (c .out ≤ 144) × (c .floats ≤ 8192) × (c .expected ≤ 20296) ⌝ }
+    ensures { λ r. ⌜ r ≡ rightLeaf (now (text .entry)) c (listOf c (now (a .entry)) (now (rows .entry)) (replicate (c .out) seven) (replicate (c .floats) seven)) ⌝ }
 {
     let mut out = buffer();
     let mut floats = working_list();
     let n_out = c.out;
     let n_floats = c.floats;
-    right_lists(text, c, a, rows, &mut out[..n_out], &mut floats[..n_floats])
-}
-
-// Leaves 1 to 7, 14 and 15.
-fn call_one(c: Case, a: &[f64], b: &[f64], rows: &[usize]) -> Outcome {
-    if c.leaf == 14 {
-        return of_squared(squared::squared_distance_through(a, c.n, rows, c.i, c.j));
-    }
-    if c.leaf == 15 {
-        return call_many(c.i, c.n);
-    }
-    call_value(c.leaf, c.n, a, b)
-}
-
-// Runs a leaf that answers one value or none.
-fn right_value(text: &[u8], c: Case, a: &[f64], b: &[f64], rows: &[usize]) -> bool {
-    let o = call_one(c, a, b, rows);
-    if !same_answer(text, c.expected, o) {
-        return false;
-    }
-    same_value(text, c.expected, o)
+    right_leaf(text, c, a, rows, &mut out[..n_out], &mut floats[..n_floats])
 }
 
 // Runs a case whose lists are read.
-fn right_read(text: &[u8], c: Case, a: &[f64], b: &[f64], rows: &[usize]) -> bool
-    requires { ⌜ (c .out ≤ 144) × (c .floats ≤ 8192) ⌝ }
+fn right_lists(text: &[u8], c: Case, a: &[f64], b: &[f64], rows: &[usize]) -> bool
+    requires { ⌜ (c .out ≤ 144) × (c .floats ≤ 8192) × (c .expected ≤ 20296) ⌝ }
+    ensures { λ r. ⌜ r ≡ rightLists (now (text .entry)) c (now (a .entry)) (now (b .entry)) (now (rows .entry)) ⌝ }
 {
     if c.leaf < 8 {
-        return right_value(text, c, a, b, rows);
+        return right_value(text, c, call_value(c, a, b, rows));
     }
     if c.leaf > 13 {
-        return right_value(text, c, a, b, rows);
+        return right_value(text, c, call_value(c, a, b, rows));
     }
-    right_list(text, c, a, rows)
+    right_lent(text, c, a, rows)
 }
 
 // Reads the case's lists, the second both as doubles and as numbers, and runs it.
 fn right_case(text: &[u8], at: usize, c: Case) -> bool
-    requires { ⌜ (at ≤ 20000) × (c .a ≤ 144) × (c .b ≤ 144) × (c .out ≤ 144) × (c .floats ≤ 8192) ⌝ }
+    requires { ⌜ (at ≤ 20000) × (c .a ≤ 144) × (c .b ≤ 144) × (c .out ≤ 144) × (c .floats ≤ 8192) × (c .expected ≤ 20296) ⌝ }
+    ensures { λ r. ⌜ r ≡ rightCase (now (text .entry)) at c ⌝ }
 {
     let n_a = c.a;
     let n_b = c.b;
@@ -357,28 +283,32 @@ fn right_case(text: &[u8], at: usize, c: Case) -> bool
     let a = doubles_at(text, first, n_a);
     let b = doubles_at(text, second, n_b);
     let rows = numbers_at(text, second, n_b);
-    right_read(text, c, &a[..n_a], &b[..n_b], &rows[..n_b])
+    right_lists(text, c, &a[..n_a], &b[..n_b], &rows[..n_b])
 }
 
-fn run(text: &[u8])
+// Runs every case of the text, and reports those that differ.
+fn run(text: &[u8]) -> Counts
     requires { ⌜ length (now text) ≤ 262144 ⌝ }
+    ensures { λ r. ⌜ r ≡ countsIn (now (text .entry)) ⌝ }
 {
     let words = text.len() / 17;
     let mut at = 0;
-    let mut cases: u64 = 0;
-    let mut differ: u64 = 0;
+    let mut counts = Counts {
+        cases: 0,
+        differ: 0,
+    };
     while at < words {
         let c = read_case(text, at);
         let right = right_case(text, at, c);
-        differ = differ + words::differs(right, at, c.leaf);
-        cases = cases + 1;
-        at = after(text, c.expected);
+        counts = words::counted(counts, right, at, c.leaf);
+        at = c.next;
     }
-    words::summary(Counts { cases, differ });
+    counts
 }
 
 fn main() {
     let mut text = words::text_buffer();
     let n = io::read_full(0, &mut text);
-    run(&text[..n]);
+    let counts = run(&text[..n]);
+    words::summary(counts);
 }

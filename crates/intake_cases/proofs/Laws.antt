@@ -4,7 +4,6 @@ use mathlib.Core.Path.{_≡_, refl, sym, _∙_, ap}
 use mathlib.Core.Bool.{Bool}
 use mathlib.Core.List.{List}
 use native.Mathlib.Omega.{arith}
-use native.Mathlib.Numerals.{add-one}
 use native.Mathlib.Nat.{mul-le-mul, zero-add}
 use borrow.Author.Tests.{lt-ltb, le-ltb, eq-eqb, ne-eqb}
 use lib.IntN.{ℤ, pos, negsuc, _-ℤ_}
@@ -14,7 +13,7 @@ use mir.ValLaws.{toZ-ofZ, toZ-pos}
 use Rattle.refusals.specs.Table.{Refusal}
 use Rattle.intake.specs.Intake.{million, intakeOf}
 use Rattle.intake_cases.specs.declared.Case.{Case}
-use Rattle.intake_cases.specs.Cases.{signedOf, signedFrom, caseAt, sameAnswer, rightCase, startOf, rightAt, madeCell}
+use Rattle.intake_cases.specs.Cases.{signedOf, signedFrom, sameAnswer, rightCase, madeCell}
 
 -- a word below 2 ^ 63, and one from there on
 pub signed-low : (word : ℕ) → word < 0x8000_0000_0000_0000 → signedOf word ≡ pos word
@@ -47,14 +46,6 @@ pub was-read : (text : List ℕ) (at : ℕ) (c : Case) {cells : List ℤ} {q : R
     → r ≡ sameAnswer text (c .expected) q → r ≡ rightCase text at c
 unfolding rightCase
 was-read text at c e h s = s ∙ rw (h, e)
-
--- one more case, which starts at `at`
-pub start-more : (text : List ℕ) (j : ℕ) {at : ℕ} {c : Case} → at ≡ startOf text j → c ≡ caseAt text at → c .expected + 2 ≡ startOf text (j + 1)
-unfolding startOf
-start-more text j e h = rw (add-one, h, e)
-
-pub right-at : (text : List ℕ) (j : ℕ) {at : ℕ} {c : Case} {r : Bool} → at ≡ startOf text j → c ≡ caseAt text at → r ≡ rightCase text at c → r ≡ rightAt text j
-right-at text j e h t = rw (← e, ← h) t
 
 -- a made cell on the diagonal, and elsewhere
 pub made-one : (i j : ℕ) → i ≡ j → pos million ≡ madeCell i j

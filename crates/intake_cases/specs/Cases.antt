@@ -1,14 +1,15 @@
 -- A case of the check of a book in whole millionths, and whether it is answered as expected. Definitions only.
-use Prim.Native.Nat.{ℕ, zero, suc, _+_, _-_, _*_, _/_}
-use mathlib.Core.Bool.{Bool, cond, _&&_}
-use mathlib.Core.List.{List}
+use Prim.Native.Nat.{ℕ, _+_, _-_, _*_, _/_}
+use mathlib.Core.Bool.{Bool, cond}
+use mathlib.Core.List.{List, [], _∷_}
 use lib.Dec.{eqb, ltb}
 use lib.ListN.{length}
 use lib.IntN.{ℤ, pos, negsuc}
 use Rattle.lists.specs.Lists.{listed, grid}
 use Rattle.refusals.specs.Table.{Refusal}
 use Rattle.intake.specs.Intake.{million, intakeOf}
-use Rattle.words.specs.Words.{wordFrom, sizeFrom, casesBy, differBy}
+use Rattle.words.specs.Words.{wordFrom, sizeFrom, sameNumbers, countsBy}
+use Rattle.words.specs.declared.Counts.{Counts}
 use Rattle.intake_cases.specs.declared.Case.{Case}
 
 -- the number that a word of 64 bits is in two's complement; `negsuc k` is -(k + 1)
@@ -19,7 +20,7 @@ signedOf word = cond (ltb word 0x8000_0000_0000_0000) (pos word) (negsuc (0xffff
 abbrev pub signedFrom : List ℕ → ℕ → ℕ → List ℤ
 signedFrom text at n = listed (λ i. signedOf (wordFrom text at i)) n
 
--- the case at `at`: three words, the cells, and then the expected answer
+-- the case at `at`: three words, the cells, and then the expected answer, two words
 unfoldable pub caseAt : List ℕ → ℕ → Case
 caseAt text at =
     record {
@@ -27,31 +28,20 @@ caseAt text at =
       cols = wordFrom text at 1;
       cells = sizeFrom text at 2 256;
       expected = at + 3 + sizeFrom text at 2 256;
+      next = at + 3 + sizeFrom text at 2 256 + 2;
     }
 
 -- whether the text has this number and place at `expected`
 unfoldable pub sameAnswer : List ℕ → ℕ → Refusal → Bool
-sameAnswer text expected q = eqb (q .number) (wordFrom text expected 0) && eqb (q .place) (wordFrom text expected 1)
+sameAnswer text expected q = sameNumbers text expected (q .number ∷ q .place ∷ [])
 
 -- whether the book of the cells that the text has after the three words at `at` is answered as expected
 unfoldable pub rightCase : List ℕ → ℕ → Case → Bool
 rightCase text at c = sameAnswer text (c .expected) (intakeOf (signedFrom text (at + 3) (c .cells)) (c .rows) (c .cols))
 
--- where case j starts: the first at word 0, each other behind the expected answer of the one before
-unfoldable pub startOf : List ℕ → ℕ → ℕ
-startOf text zero = 0
-startOf text (suc j) = caseAt text (startOf text j) .expected + 2
-
--- whether case j is answered as expected
-abbrev pub rightAt : List ℕ → ℕ → Bool
-rightAt text j = rightCase text (startOf text j) (caseAt text (startOf text j))
-
 -- the cases of a text, and how many of them are answered otherwise
-unfoldable pub casesIn : List ℕ → ℕ
-casesIn text = casesBy (startOf text) (length text / 17)
-
-unfoldable pub differIn : List ℕ → ℕ
-differIn text = differBy (rightAt text) (casesIn text)
+unfoldable pub countsIn : List ℕ → Counts
+countsIn text = countsBy (caseAt text) (λ c. c .next) (rightCase text) (length text / 17)
 
 -- a book that is made in place: 1,000,000 on the diagonal, and elsewhere 1,000 times the sum of row and column
 unfoldable pub madeCell : ℕ → ℕ → ℤ

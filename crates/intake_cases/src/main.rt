@@ -2,20 +2,21 @@
 // Standard input has one word a line, 16 hex digits. A case is the rows, the columns, the count of cells, the cells in
 // two's complement, and the expected number and place. harness/intake.py works the cases out, and specs/Cases.antt says
 // when one is answered as expected. Two books too long for the text, of 256 and of 257 names, are made in place.
-ghost use Prim.Native.Nat.{_+_, _*_, _≤_};
+ghost use Prim.Native.Nat.{_*_, _<_, _≤_};
 ghost use mathlib.Core.Path.{_≡_};
 ghost use lib.ListN.{length};
 ghost use Rattle.intake.specs.Intake.{refusalOf, intakeOf};
-ghost use Rattle.intake_cases.specs.Cases.{signedOf, signedFrom, caseAt, sameAnswer, rightCase, casesIn, differIn, madeCell, madeBook};
+ghost use Rattle.intake_cases.specs.Cases.{signedOf, signedFrom, caseAt, sameAnswer, rightCase, countsIn, madeCell, madeBook};
 use intake::Intake;
 use words::Counts;
 
-// The sizes of a case, and the word at which its expected answer starts.
+// The sizes of a case, the word at which its expected answer starts, and the one at which the next case does.
 struct Case {
     rows: usize,
     cols: usize,
     cells: usize,
     expected: usize,
+    next: usize,
 }
 
 // Each list comes from a function: a literal array would stand in every goal, cell by cell.
@@ -55,14 +56,16 @@ fn signed(text: &[u8], at: usize, xs: &mut [i64])
 fn read_case(text: &[u8], at: usize) -> Case
     requires { ⌜ at ≤ 20000 ⌝ }
     ensures { λ r. ⌜ r ≡ caseAt (now (text .entry)) at ⌝ }
-    ensures { λ r. ⌜ (r .cells ≤ 256) × (at + 3 ≤ r .expected) × (r .expected ≤ 20259) ⌝ }
+    ensures { λ r. ⌜ (r .cells ≤ 256) × (at < r .next) ⌝ }
 {
     let cells = words::size_from(text, at, 2, 256);
+    let expected = at + 3 + cells;
     Case {
         rows: words::word_from(text, at, 0) as usize,
         cols: words::word_from(text, at, 1) as usize,
         cells,
-        expected: at + 3 + cells,
+        expected,
+        next: expected + 2,
     }
 }
 
@@ -70,10 +73,8 @@ fn read_case(text: &[u8], at: usize) -> Case
 fn same_answer(text: &[u8], expected: usize, a: Intake) -> bool
     ensures { λ r. ⌜ r ≡ sameAnswer (now (text .entry)) expected (refusalOf a) ⌝ }
 {
-    if intake::number_of(a) as u64 != words::word_from(text, expected, 0) {
-        return false;
-    }
-    intake::place_of(a) as u64 == words::word_from(text, expected, 1)
+    let answer = [intake::number_of(a), intake::place_of(a)];
+    words::same_numbers(text, expected, &answer)
 }
 
 // Reads the case's cells into a list of their count, and checks them as a book.
@@ -98,20 +99,21 @@ fn right_case(text: &[u8], at: usize, c: Case) -> bool
 // Runs every case of the text, and reports those that differ; kind 0: there is only one.
 fn run(text: &[u8]) -> Counts
     requires { ⌜ length (now text) ≤ 262144 ⌝ }
-    ensures { λ r. ⌜ (r .cases ≡ casesIn (now (text .entry))) × (r .differ ≡ differIn (now (text .entry))) ⌝ }
+    ensures { λ r. ⌜ r ≡ countsIn (now (text .entry)) ⌝ }
 {
     let words = text.len() / 17;
     let mut at = 0;
-    let mut cases: u64 = 0;
-    let mut differ: u64 = 0;
+    let mut counts = Counts {
+        cases: 0,
+        differ: 0,
+    };
     while at < words {
         let c = read_case(text, at);
         let right = right_case(text, at, c);
-        differ = differ + words::differs(right, at, 0);
-        cases = cases + 1;
-        at = c.expected + 2;
+        counts = words::counted(counts, right, at, 0);
+        at = c.next;
     }
-    Counts { cases, differ }
+    counts
 }
 
 // The cell in row i and column j of a book that is made in place.

@@ -3,14 +3,13 @@ use Prim.Native.Nat.{ℕ, _+_}
 use mathlib.Core.Path.{_≡_, _∙_}
 use mathlib.Core.Bool.{Bool, true, false}
 use mathlib.Core.List.{List}
-use native.Mathlib.Numerals.{add-one}
 use lib.ListN.{replicate}
 use lib.Ieee.{Float}
 use Rattle.refusals.specs.Table.{Refusal}
 use Rattle.kmeans_answers.specs.Leaf.{Leaf}
 use Rattle.words.specs.Words.{doublesFrom, wordsFrom, sameNumbers, seven, namesWiped, leftLists}
 use Rattle.replay.specs.declared.Case.{Case}
-use Rattle.replay.specs.Cases.{sameAnswer, rightLeaf, leafOf, rightLists, rightCase, caseAt, startOf, rightAt}
+use Rattle.replay.specs.Cases.{sameAnswer, rightLeaf, leafOf, rightLists, rightCase}
 
 -- What a leaf l gave and left: the answer q with the draws read, and the lists.
 module _ (text : List ℕ) (c : Case) (q : Refusal) (read : ℕ) (out : List ℕ) (floats : List Float) (numbers : List ℕ) {l : Leaf}
@@ -41,11 +40,3 @@ pub were-read : (text : List ℕ) (at : ℕ) (c : Case) {points : List Float} {d
     → r ≡ rightLists text c points draws centres → r ≡ rightCase text at c
 unfolding rightCase
 were-read text at c p d e h = h ∙ rw (p, d, e)
-
--- one more case, which starts at `at`
-pub start-more : (text : List ℕ) (j : ℕ) {at : ℕ} {c : Case} → at ≡ startOf text j → c ≡ caseAt text at → c .expected + 3 + c .out ≡ startOf text (j + 1)
-unfolding startOf
-start-more text j e h = rw (add-one, h, e)
-
-pub right-at : (text : List ℕ) (j : ℕ) {at : ℕ} {c : Case} {r : Bool} → at ≡ startOf text j → c ≡ caseAt text at → r ≡ rightCase text at c → r ≡ rightAt text j
-right-at text j e h t = rw (← e, ← h) t

@@ -1,17 +1,18 @@
 -- A recorded case of a k-means leaf, and whether the leaf answers and leaves what is recorded. Definitions only.
-use Prim.Native.Nat.{ℕ, zero, suc, _+_, _/_}
+use Prim.Native.Nat.{ℕ, _+_, _/_}
 use mathlib.Core.Bool.{Bool, cond, _&&_}
-use mathlib.Core.List.{List}
+use mathlib.Core.List.{List, [], _∷_}
 use lib.Dec.{eqb}
 use lib.ListN.{length, replicate}
 use lib.Ieee.{Float}
 use Rattle.refusals.specs.Table.{Refusal}
 use Rattle.kmeans_answers.specs.Leaf.{Leaf}
 use Rattle.kmeans.specs.Leaves.{plusPlusLeaf, lloydLeaf, labelsLeaf}
-use Rattle.words.specs.Words.{wordFrom, sizeFrom, doublesFrom, wordsFrom, sameNumbers, seven, namesWiped, leftLists, casesBy, differBy}
+use Rattle.words.specs.Words.{wordFrom, sizeFrom, doublesFrom, wordsFrom, sameNumbers, seven, namesWiped, leftLists, countsBy}
+use Rattle.words.specs.declared.Counts.{Counts}
 use Rattle.replay.specs.declared.Case.{Case}
 
--- the case at `at`: eight words, two lists, and then the expected answer
+-- the case at `at`: eight words, two lists, and then the expected answer, three words and the output list
 unfoldable pub caseAt : List ℕ → ℕ → Case
 caseAt text at =
     record {
@@ -24,6 +25,7 @@ caseAt text at =
       floats = sizeFrom text at 6 6400;
       numbers = sizeFrom text at 7 5400;
       expected = at + 8 + sizeFrom text at 3 256 + sizeFrom text at 4 64;
+      next = at + 8 + sizeFrom text at 3 256 + sizeFrom text at 4 64 + 3 + sizeFrom text at 5 64;
     }
 
 -- what the case's leaf gives and leaves: 1 kmeans_plus_plus, 2 lloyd, else kmeans_labels
@@ -34,7 +36,7 @@ leafOf c points draws centres out floats numbers =
 
 -- whether the text has this number, place and draws read at `expected`
 unfoldable pub sameAnswer : List ℕ → ℕ → Refusal → ℕ → Bool
-sameAnswer text expected q read = eqb (q .number) (wordFrom text expected 0) && (eqb (q .place) (wordFrom text expected 1) && eqb read (wordFrom text expected 2))
+sameAnswer text expected q read = sameNumbers text expected (q .number ∷ q .place ∷ read ∷ [])
 
 -- whether the case's leaf answers and leaves what is recorded
 unfoldable pub rightLeaf : List ℕ → Case → Leaf → Bool
@@ -52,18 +54,6 @@ unfoldable pub rightCase : List ℕ → ℕ → Case → Bool
 rightCase text at c =
     rightLists text c (doublesFrom text (at + 8) (c .points)) (wordsFrom text (at + 8 + c .points) (c .list)) (wordsFrom text (at + 8 + c .points) (c .list))
 
--- where case j starts: the first at word 0, each other behind the output list of the one before
-unfoldable pub startOf : List ℕ → ℕ → ℕ
-startOf text zero = 0
-startOf text (suc j) = caseAt text (startOf text j) .expected + 3 + caseAt text (startOf text j) .out
-
--- whether case j is answered as recorded
-abbrev pub rightAt : List ℕ → ℕ → Bool
-rightAt text j = rightCase text (startOf text j) (caseAt text (startOf text j))
-
 -- the cases of a text, and how many of them are answered otherwise
-unfoldable pub casesIn : List ℕ → ℕ
-casesIn text = casesBy (startOf text) (length text / 17)
-
-unfoldable pub differIn : List ℕ → ℕ
-differIn text = differBy (rightAt text) (casesIn text)
+unfoldable pub countsIn : List ℕ → Counts
+countsIn text = countsBy (caseAt text) (λ c. c .next) (rightCase text) (length text / 17)

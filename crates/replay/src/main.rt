@@ -6,16 +6,16 @@
 // - the number (0: not refused), the place, the draws read, and the output list.
 // Lent lists hold 999 or 7.0 in each cell before the call. harness/kmeans/run.sh records the cases, and specs/Cases.antt
 // says when one is answered as recorded.
-ghost use Prim.Native.Nat.{_+_, _≤_};
+ghost use Prim.Native.Nat.{_<_, _≤_};
 ghost use mathlib.Core.Path.{_≡_};
 ghost use lib.ListN.{length, take, replicate};
 ghost use Rattle.kmeans_answers.specs.Answers.{refusalOf, readOf};
 ghost use Rattle.words.specs.Words.{seven, doublesFrom, wordsFrom};
-ghost use Rattle.replay.specs.Cases.{caseAt, leafOf, sameAnswer, rightLeaf, rightLists, rightCase, casesIn, differIn};
+ghost use Rattle.replay.specs.Cases.{caseAt, leafOf, sameAnswer, rightLeaf, rightLists, rightCase, countsIn};
 use kmeans_answers::Kmeans;
 use words::Counts;
 
-// The sizes of a case, and the word at which its expected answer starts.
+// The sizes of a case, the word at which its expected answer starts, and the one at which the next case does.
 struct Case {
     leaf: u64,
     n: usize,
@@ -26,6 +26,7 @@ struct Case {
     floats: usize,
     numbers: usize,
     expected: usize,
+    next: usize,
 }
 
 // Each list comes from a function: a literal array would stand in every goal, cell by cell.
@@ -91,20 +92,23 @@ fn centres_at(text: &[u8], at: usize, n: usize) -> [usize; 64]
 fn read_case(text: &[u8], at: usize) -> Case
     requires { ⌜ at ≤ 20000 ⌝ }
     ensures { λ r. ⌜ r ≡ caseAt (now (text .entry)) at ⌝ }
-    ensures { λ r. ⌜ (r .points ≤ 256) × (r .list ≤ 64) × (r .out ≤ 64) × (r .floats ≤ 6400) × (r .numbers ≤ 5400) × (at + 8 ≤ r .expected) × (r .expected ≤ 20328) ⌝ }
+    ensures { λ r. ⌜ (r .points ≤ 256) × (r .list ≤ 64) × (r .out ≤ 64) × (r .floats ≤ 6400) × (r .numbers ≤ 5400) × (r .expected ≤ 20328) × (at < r .next) ⌝ }
 {
     let points = words::size_from(text, at, 3, 256);
     let list = words::size_from(text, at, 4, 64);
+    let out = words::size_from(text, at, 5, 64);
+    let expected = at + 8 + points + list;
     Case {
         leaf: words::word_from(text, at, 0),
         n: words::word_from(text, at, 1) as usize,
         k: words::word_from(text, at, 2) as usize,
         points,
         list,
-        out: words::size_from(text, at, 5, 64),
+        out,
         floats: words::size_from(text, at, 6, 6400),
         numbers: words::size_from(text, at, 7, 5400),
-        expected: at + 8 + points + list,
+        expected,
+        next: expected + 3 + out,
     }
 }
 
@@ -134,13 +138,12 @@ fn call(
 fn same_answer(text: &[u8], expected: usize, a: Kmeans) -> bool
     ensures { λ r. ⌜ r ≡ sameAnswer (now (text .entry)) expected (refusalOf a) (readOf a) ⌝ }
 {
-    if kmeans_answers::number_of(a) as u64 != words::word_from(text, expected, 0) {
-        return false;
-    }
-    if kmeans_answers::place_of(a) as u64 != words::word_from(text, expected, 1) {
-        return false;
-    }
-    kmeans_answers::read_of(a) as u64 == words::word_from(text, expected, 2)
+    let answer = [
+        kmeans_answers::number_of(a),
+        kmeans_answers::place_of(a),
+        kmeans_answers::read_of(a),
+    ];
+    words::same_numbers(text, expected, &answer)
 }
 
 // Runs a leaf, and compares what it answers and leaves.
@@ -215,20 +218,21 @@ fn right_case(text: &[u8], at: usize, c: Case) -> bool
 // Runs every case of the text, and reports those that differ.
 fn run(text: &[u8]) -> Counts
     requires { ⌜ length (now text) ≤ 262144 ⌝ }
-    ensures { λ r. ⌜ (r .cases ≡ casesIn (now (text .entry))) × (r .differ ≡ differIn (now (text .entry))) ⌝ }
+    ensures { λ r. ⌜ r ≡ countsIn (now (text .entry)) ⌝ }
 {
     let words = text.len() / 17;
     let mut at = 0;
-    let mut cases: u64 = 0;
-    let mut differ: u64 = 0;
+    let mut counts = Counts {
+        cases: 0,
+        differ: 0,
+    };
     while at < words {
         let c = read_case(text, at);
         let right = right_case(text, at, c);
-        differ = differ + words::differs(right, at, c.leaf);
-        cases = cases + 1;
-        at = c.expected + 3 + c.out;
+        counts = words::counted(counts, right, at, c.leaf);
+        at = c.next;
     }
-    Counts { cases, differ }
+    counts
 }
 
 fn main() {

@@ -3,13 +3,12 @@ use Prim.Native.Nat.{ℕ, _+_}
 use mathlib.Core.Path.{_≡_, _∙_}
 use mathlib.Core.Bool.{Bool}
 use mathlib.Core.List.{List}
-use native.Mathlib.Numerals.{add-one}
 use lib.ListN.{replicate}
 use lib.Ieee.{Float}
 use Rattle.words.specs.Words.{doublesFrom, wordsFrom, seven}
 use Rattle.onc.specs.Onc.{groupOf}
 use Rattle.replay_runs.specs.declared.Case.{Case}
-use Rattle.replay_runs.specs.Runs.{caseAt, rightRun, rightLists, rightCase, startOf, rightAt}
+use Rattle.replay_runs.specs.Runs.{rightRun, rightLists, rightCase}
 
 -- working lists of equal cells were lent
 module _ (text : List ℕ) (c : Case) (cells : List Float) (draws : List ℕ) where
@@ -32,12 +31,3 @@ pub were-read : (text : List ℕ) (at : ℕ) (c : Case) {cells : List Float} {dr
     → r ≡ rightLists text c cells draws → r ≡ rightCase text at c
 unfolding rightCase
 were-read text at c p d h = h ∙ rw (p, d)
-
--- one more case, which starts at `at`
-pub start-more : (text : List ℕ) (j : ℕ) {at : ℕ} {c : Case} → at ≡ startOf text j → c ≡ caseAt text at
-    → c .expected + 4 + c .order + c .sizes + c .scores + c .ordered ≡ startOf text (j + 1)
-unfolding startOf
-start-more text j e h = rw (add-one, h, e)
-
-pub right-at : (text : List ℕ) (j : ℕ) {at : ℕ} {c : Case} {r : Bool} → at ≡ startOf text j → c ≡ caseAt text at → r ≡ rightCase text at c → r ≡ rightAt text j
-right-at text j e h t = rw (← e, ← h) t

@@ -1,13 +1,13 @@
 -- A recorded call of `get_onc_clusters_with_draws`, and whether it answers and leaves what is recorded. Definitions only.
-use Prim.Native.Nat.{ℕ, zero, suc, _+_, _/_}
+use Prim.Native.Nat.{ℕ, _+_, _/_}
 use mathlib.Core.Bool.{Bool, _&&_}
-use mathlib.Core.List.{List}
-use lib.Dec.{eqb}
+use mathlib.Core.List.{List, [], _∷_}
 use lib.ListN.{length, replicate}
 use lib.Ieee.{Float}
-use Rattle.words.specs.Words.{wordFrom, sizeFrom, doublesFrom, wordsFrom, sameNumbers, sameDoubles, seven, namesWiped, leftLists, casesBy, differBy}
+use Rattle.words.specs.Words.{wordFrom, sizeFrom, doublesFrom, wordsFrom, sameNumbers, sameDoubles, seven, namesWiped, leftLists, countsBy}
 use Rattle.onc_answers.specs.Answers.{Answer}
 use Rattle.onc.specs.Onc.{Lists, Outcome, groupOf}
+use Rattle.words.specs.declared.Counts.{Counts}
 use Rattle.replay_runs.specs.declared.Case.{Case}
 
 -- the case at `at`: eleven words, the cells, the draws, and then the expected answer
@@ -26,14 +26,14 @@ caseAt text at =
       floats = sizeFrom text at 9 4400;
       numbers = sizeFrom text at 10 4000;
       expected = at + 11 + sizeFrom text at 3 144 + sizeFrom text at 4 2048;
+      next =
+          at + 11 + sizeFrom text at 3 144 + sizeFrom text at 4 2048 + 4 + sizeFrom text at 5 16 + sizeFrom text at 6 16 + sizeFrom text at 7 16
+          + sizeFrom text at 8 256;
     }
 
 -- whether the text has this number, place, count of groups and count of draws read at `expected`
 unfoldable pub sameAnswer : List ℕ → ℕ → Answer → Bool
-sameAnswer text expected a =
-    eqb (a .refused .number) (wordFrom text expected 0)
-    && (eqb (a .refused .place) (wordFrom text expected 1)
-    && (eqb (a .groups) (wordFrom text expected 2) && eqb (a .read) (wordFrom text expected 3)))
+sameAnswer text expected a = sameNumbers text expected (a .refused .number ∷ a .refused .place ∷ a .groups ∷ a .read ∷ [])
 
 -- whether it has these outputs behind that, one after the other
 unfoldable pub sameOutputs : List ℕ → Case → (order sizes : List ℕ) (scores ordered : List Float) → Bool
@@ -68,20 +68,6 @@ rightLists text c cells draws = rightRun text c (groupOf cells (c .rows) (c .col
 unfoldable pub rightCase : List ℕ → ℕ → Case → Bool
 rightCase text at c = rightLists text c (doublesFrom text (at + 11) (c .cells)) (wordsFrom text (at + 11 + c .cells) (c .draws))
 
--- where case j starts: the first at word 0, each other behind the matrix of the one before
-unfoldable pub startOf : List ℕ → ℕ → ℕ
-startOf text zero = 0
-startOf text (suc j) =
-    let c = caseAt text (startOf text j) in
-    c .expected + 4 + c .order + c .sizes + c .scores + c .ordered
-
--- whether case j is answered as recorded
-abbrev pub rightAt : List ℕ → ℕ → Bool
-rightAt text j = rightCase text (startOf text j) (caseAt text (startOf text j))
-
 -- the cases of a text, and how many of them are answered otherwise
-unfoldable pub casesIn : List ℕ → ℕ
-casesIn text = casesBy (startOf text) (length text / 17)
-
-unfoldable pub differIn : List ℕ → ℕ
-differIn text = differBy (rightAt text) (casesIn text)
+unfoldable pub countsIn : List ℕ → Counts
+countsIn text = countsBy (caseAt text) (λ c. c .next) (rightCase text) (length text / 17)

@@ -8,17 +8,17 @@
 // - the number (0: a grouping), the place, the groups, the draws read; then order, sizes, scores and ordered matrix as
 //   they stand after the call.
 // Lent lists hold 999 or 7.0 in each cell before the call. specs/Runs.antt says when a case is answered as recorded.
-ghost use Prim.Native.Nat.{_+_, _≤_};
+ghost use Prim.Native.Nat.{_<_, _≤_};
 ghost use mathlib.Core.Path.{_≡_};
 ghost use lib.ListN.{length, take, replicate};
 ghost use Rattle.onc_answers.specs.Answers.{answerOf};
 ghost use Rattle.onc.specs.Onc.{groupOf};
 ghost use Rattle.words.specs.Words.{seven, doublesFrom, wordsFrom};
-ghost use Rattle.replay_runs.specs.Runs.{caseAt, sameAnswer, sameOutputs, rightRun, rightLists, rightCase, casesIn, differIn};
+ghost use Rattle.replay_runs.specs.Runs.{caseAt, sameAnswer, sameOutputs, rightRun, rightLists, rightCase, countsIn};
 use onc_answers::Onc;
 use words::Counts;
 
-// The sizes of a case, and the word at which its expected answer starts.
+// The sizes of a case, the word at which its expected answer starts, and the one at which the next case does.
 struct Case {
     rows: usize,
     cols: usize,
@@ -32,6 +32,7 @@ struct Case {
     floats: usize,
     numbers: usize,
     expected: usize,
+    next: usize,
 }
 
 // Each list comes from a function: a literal array would stand in every goal, cell by cell.
@@ -107,23 +108,29 @@ fn read_case(text: &[u8], at: usize) -> Case
     requires { ⌜ at ≤ 77101 ⌝ }
     ensures { λ r. ⌜ r ≡ caseAt (now (text .entry)) at ⌝ }
     ensures { λ r. ⌜ (r .cells ≤ 144) × (r .draws ≤ 2048) × (r .order ≤ 16) × (r .sizes ≤ 16) × (r .scores ≤ 16) × (r .ordered ≤ 256) × (r .floats ≤ 4400) × (r .numbers ≤ 4000)
-        × (at + 11 ≤ r .expected) × (r .expected ≤ 79304) ⌝ }
+        × (r .expected ≤ 79304) × (at < r .next) ⌝ }
 {
     let cells = words::size_from(text, at, 3, 144);
     let draws = words::size_from(text, at, 4, 2048);
+    let order = words::size_from(text, at, 5, 16);
+    let sizes = words::size_from(text, at, 6, 16);
+    let scores = words::size_from(text, at, 7, 16);
+    let ordered = words::size_from(text, at, 8, 256);
+    let expected = at + 11 + cells + draws;
     Case {
         rows: words::word_from(text, at, 0) as usize,
         cols: words::word_from(text, at, 1) as usize,
         repeat: words::word_from(text, at, 2) as usize,
         cells,
         draws,
-        order: words::size_from(text, at, 5, 16),
-        sizes: words::size_from(text, at, 6, 16),
-        scores: words::size_from(text, at, 7, 16),
-        ordered: words::size_from(text, at, 8, 256),
+        order,
+        sizes,
+        scores,
+        ordered,
         floats: words::size_from(text, at, 9, 4400),
         numbers: words::size_from(text, at, 10, 4000),
-        expected: at + 11 + cells + draws,
+        expected,
+        next: expected + 4 + order + sizes + scores + ordered,
     }
 }
 
@@ -131,16 +138,13 @@ fn read_case(text: &[u8], at: usize) -> Case
 fn same_answer(text: &[u8], expected: usize, a: Onc) -> bool
     ensures { λ r. ⌜ r ≡ sameAnswer (now (text .entry)) expected (answerOf a) ⌝ }
 {
-    if onc_answers::number_of(a) as u64 != words::word_from(text, expected, 0) {
-        return false;
-    }
-    if onc_answers::place_of(a) as u64 != words::word_from(text, expected, 1) {
-        return false;
-    }
-    if onc_answers::groups_of(a) as u64 != words::word_from(text, expected, 2) {
-        return false;
-    }
-    onc_answers::read_of(a) as u64 == words::word_from(text, expected, 3)
+    let answer = [
+        onc_answers::number_of(a),
+        onc_answers::place_of(a),
+        onc_answers::groups_of(a),
+        onc_answers::read_of(a),
+    ];
+    words::same_numbers(text, expected, &answer)
 }
 
 // Whether it has these outputs behind that, one after the other.
@@ -326,20 +330,21 @@ fn right_case(text: &[u8], at: usize, c: Case) -> bool
 // Runs every case of the text, and reports those that differ; kind 0: there is only one.
 fn run(text: &[u8]) -> Counts
     requires { ⌜ length (now text) ≤ 1310720 ⌝ }
-    ensures { λ r. ⌜ (r .cases ≡ casesIn (now (text .entry))) × (r .differ ≡ differIn (now (text .entry))) ⌝ }
+    ensures { λ r. ⌜ r ≡ countsIn (now (text .entry)) ⌝ }
 {
     let words = text.len() / 17;
     let mut at = 0;
-    let mut cases: u64 = 0;
-    let mut differ: u64 = 0;
+    let mut counts = Counts {
+        cases: 0,
+        differ: 0,
+    };
     while at < words {
         let c = read_case(text, at);
         let right = right_case(text, at, c);
-        differ = differ + words::differs(right, at, 0);
-        cases = cases + 1;
-        at = c.expected + 4 + c.order + c.sizes + c.scores + c.ordered;
+        counts = words::counted(counts, right, at, 0);
+        at = c.next;
     }
-    Counts { cases, differ }
+    counts
 }
 
 fn main() {

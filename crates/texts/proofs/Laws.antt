@@ -4,7 +4,6 @@ use mathlib.Core.Path.{_≡_, _∙_, ap}
 use mathlib.Core.Bool.{Bool}
 use mathlib.Core.List.{List}
 use native.Mathlib.Omega.{arith}
-use native.Mathlib.Numerals.{add-one}
 use lib.ListN.{length, take}
 use Rattle.lists.specs.Lists.{part}
 use Rattle.lists.proofs.Parts.{tail-is}
@@ -14,7 +13,7 @@ use Rattle.answer_text.specs.Answer.{room, refusalFits, refusalOf, bytesOf, Wri
 use Rattle.answer_text.proofs.Front.{in-front, refusal-fits}
 use Rattle.grouping_text.specs.Program.{programOf}
 use Rattle.texts.specs.declared.Case.{Case}
-use Rattle.texts.specs.Texts.{firstOf, textLength, answerLength, caseAt, endOf, sameBytes, rightText, rightCase, startOf, rightAt}
+use Rattle.texts.specs.Texts.{firstOf, textLength, answerLength, caseAt, sameBytes, rightText, rightCase}
 
 -- a case, by where its text starts and the two lengths that were read
 pub case-is : (s : List ℕ) (at : ℕ) {first text answer : ℕ} → at ≤ length s → first ≡ firstOf s at
@@ -46,11 +45,3 @@ right-parts s c e =
     let i : c .first + c .text - c .first ≡ c .text = omega arith in
     let j : c .first + c .text + c .answer - (c .first + c .text) ≡ c .answer = omega arith in
     rw (i, j) at e
-
--- one more case, which starts at `at`
-pub start-more : (s : List ℕ) (j : ℕ) {at : ℕ} {c : Case} → at ≡ startOf s j → c ≡ caseAt s at → endOf c ≡ startOf s (j + 1)
-unfolding startOf
-start-more s j e h = rw (add-one, h, e)
-
-pub right-at : (s : List ℕ) (j : ℕ) {at : ℕ} {c : Case} {r : Bool} → at ≡ startOf s j → c ≡ caseAt s at → r ≡ rightCase s c → r ≡ rightAt s j
-right-at s j e h t = rw (← e, ← h) t

@@ -1,13 +1,14 @@
 -- Recorded texts, each with what the grouping program must print for it. Definitions only.
-use Prim.Native.Nat.{ℕ, zero, suc, _+_, _-_, min}
+use Prim.Native.Nat.{ℕ, _+_, _-_, min}
 use mathlib.Core.Bool.{Bool, _&&_}
 use mathlib.Core.List.{List}
 use lib.Dec.{eqb}
 use lib.ListN.{length, drop}
 use Rattle.lists.specs.Lists.{numbers, part}
 use Rattle.lists.specs.Sums.{allTo}
-use Rattle.words.specs.Words.{sizeFrom, casesBy, differBy}
+use Rattle.words.specs.Words.{sizeFrom, countsBy}
 use Rattle.grouping_text.specs.Program.{programOf}
+use Rattle.words.specs.declared.Counts.{Counts}
 use Rattle.texts.specs.declared.Case.{Case}
 
 -- where the text of the case at byte `at` starts: behind the two lines of lengths, and not behind the end
@@ -45,18 +46,6 @@ rightText text answer = sameBytes (programOf text) answer
 unfoldable pub rightCase : List ℕ → Case → Bool
 rightCase s c = rightText (textIn s c) (answerIn s c)
 
--- where case j starts: the first at byte 0, each other behind the one before
-unfoldable pub startOf : List ℕ → ℕ → ℕ
-startOf s zero = 0
-startOf s (suc j) = endOf (caseAt s (startOf s j))
-
--- whether case j is answered as recorded
-abbrev pub rightAt : List ℕ → ℕ → Bool
-rightAt s j = rightCase s (caseAt s (startOf s j))
-
 -- the cases of a file, and how many of them are answered otherwise
-unfoldable pub casesIn : List ℕ → ℕ
-casesIn s = casesBy (startOf s) (length s)
-
-unfoldable pub differIn : List ℕ → ℕ
-differIn s = differBy (rightAt s) (casesIn s)
+unfoldable pub countsIn : List ℕ → Counts
+countsIn s = countsBy (caseAt s) endOf (λ at c. rightCase s c) (length s)

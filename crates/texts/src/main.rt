@@ -6,7 +6,7 @@
 ghost use Prim.Native.Nat.{_+_, _<_, _≤_};
 ghost use mathlib.Core.Path.{_≡_};
 ghost use lib.ListN.{length};
-ghost use Rattle.texts.specs.Texts.{firstOf, caseAt, sameBytes, rightText, rightCase, casesIn, differIn};
+ghost use Rattle.texts.specs.Texts.{firstOf, caseAt, sameBytes, rightText, rightCase, countsIn};
 use words::Counts;
 
 // Where the text of a case starts, its length, and the length of what must be printed, which stands behind it.
@@ -92,20 +92,21 @@ fn right_case(cases: &[u8], c: Case) -> bool
 // Runs every case of the file, and reports those that differ, by their byte place; kind 0: there is only one.
 fn run(cases: &[u8]) -> Counts
     requires { ⌜ length (now cases) ≤ 262144 ⌝ }
-    ensures { λ r. ⌜ (r .cases ≡ casesIn (now (cases .entry))) × (r .differ ≡ differIn (now (cases .entry))) ⌝ }
+    ensures { λ r. ⌜ r ≡ countsIn (now (cases .entry)) ⌝ }
 {
     let n = cases.len();
     let mut at = 0;
-    let mut ran: u64 = 0;
-    let mut differ: u64 = 0;
+    let mut counts = Counts {
+        cases: 0,
+        differ: 0,
+    };
     while at < n {
         let c = read_case(cases, at);
         let right = right_case(cases, c);
-        differ = differ + words::differs(right, at, 0);
-        ran = ran + 1;
+        counts = words::counted(counts, right, at, 0);
         at = c.first + c.text + c.answer;
     }
-    Counts { cases: ran, differ }
+    counts
 }
 
 fn main() {

@@ -1,4 +1,4 @@
--- The steps of counting the cases of a text. Assumes nothing.
+-- Counting the cases of a text: what holds at each turn of the loop, its steps, and its end. Assumes nothing.
 use Prim.Native.Nat.{ℕ, _+_, _≤_, _<_}
 use mathlib.Core.Path.{_≡_, refl}
 use mathlib.Core.Bool.{Bool, true, false, cond, not}
@@ -8,23 +8,55 @@ use borrow.Author.Tests.{lt-leb, le-leb}
 use lib.Dec.{leb}
 use Rattle.lists.specs.Lists.{firstTo}
 use Rattle.lists.specs.Sums.{foldIf}
-use Rattle.lists.proofs.First.{first-found}
-use Rattle.words.specs.Words.{casesBy, differBy}
+use Rattle.lists.proofs.First.{first-found, first-more}
+use Rattle.words.specs.declared.Counts.{Counts}
+use Rattle.words.specs.Words.{startBy, casesBy, differBy, withCase, countsBy}
 
--- a case that starts at `at`, before the last word
-pub not-ended : (n at : ℕ) {s : ℕ} → at ≡ s → at < n → leb n s ≡ false
-not-ended n at e h = rw (← e) (lt-leb n at h)
+-- The next case of a text that is n long starts at `at`, and k counts the cases before it.
+pub record Counted {C : Type 0} (case : ℕ → C) (next : C → ℕ) (right : ℕ → C → Bool) (n at : ℕ) (k : Counts) : Type 0 where
+  pub starts : at ≡ startBy (λ i. next (case i)) (k .cases)
+  pub in-text : firstTo (λ j. leb n (startBy (λ i. next (case i)) j)) (k .cases) ≡ k .cases
+  pub differing : k .differ ≡ differBy (λ i. next (case i)) (λ i. right i (case i)) (k .cases)
+  pub few : k .cases ≤ at
+  pub few-in-text : k .cases ≤ n
+  pub differ-few : k .differ ≤ k .cases
+
+at-most-one : (b : Bool) → cond b 0 1 ≤ 1
+at-most-one true = omega arith
+at-most-one false = omega arith
 
 count-by : (b : Bool) (x : ℕ) → x + cond b 0 1 ≡ cond (not b) (x + 1) x
 count-by true x = omega arith
 count-by false x = refl
 
--- one more case, which is right or not
-pub differ-more : (right : ℕ → Bool) (j : ℕ) {r : Bool} {d x : ℕ} → r ≡ right j → d ≡ cond r 0 1 → x ≡ differBy right j → x + d ≡ differBy right (j + 1)
-unfolding foldIf
-differ-more right j {r} {d} {x} t s q = rw (add-one, s, ← q, t) (count-by (right j) x)
+module _ {C : Type 0} (case : ℕ → C) (next : C → ℕ) (right : ℕ → C → Bool) (n : ℕ) where
+  -- no case was counted
+  pub counted-none : Counted case next right n 0 (record { cases = 0; differ = 0 })
+  unfolding startBy firstTo foldIf
+  counted-none = record { starts = refl; in-text = refl; differing = refl; few = omega arith; few-in-text = omega arith; differ-few = omega arith }
 
--- no case starts before `at` that was not counted, and `at` is behind the last word
-pub cases-are : (start : ℕ → ℕ) {n at j : ℕ} → at ≡ start j → firstTo (λ k. leb n (start k)) j ≡ j → n ≤ at → j ≤ n → j ≡ casesBy start n
-unfolding casesBy
-cases-are start {n} {at} s f l m = first-found _ _ _ f (rw (← s) (le-leb n at l)) (omega (arith, m))
+  -- one more, c, which starts in the text
+  pub counted-more : {at : ℕ} {k l : Counts} {c : C} {r : Bool} → Counted case next right n at k → at < n → c ≡ case at → at < next c → r ≡ right at c → l ≡ withCase k r
+      → Counted case next right n (next c) l
+  unfolding startBy foldIf
+  counted-more {at} {k} {l} {c} {r} i h e f t s =
+      let b = at-most-one r in
+      let t′ : r ≡ right (startBy (λ j. next (case j)) (k .cases)) (case (startBy (λ j. next (case j)) (k .cases))) = rw (← i .starts, ← e) t in
+      rw s
+      (record {
+        starts = rw (add-one, ← i .starts, e);
+        in-text = first-more _ _ (i .in-text) (rw (← i .starts) (lt-leb n at h));
+        differing = rw (add-one, ← i .differing, ← t′) (count-by r (k .differ));
+        few = omega arith;
+        few-in-text = omega arith;
+        differ-few = omega arith;
+      })
+
+  ended : {at : ℕ} {k : Counts} → Counted case next right n at k → n ≤ at → k .cases ≡ casesBy (λ j. next (case j)) n
+  unfolding casesBy
+  ended {at} {k} i h = first-found _ _ _ (i .in-text) (rw (← i .starts) (le-leb n at h)) (omega arith)
+
+  -- all were counted
+  pub counted-all : {at : ℕ} {k : Counts} → Counted case next right n at k → n ≤ at → k ≡ countsBy case next right n
+  unfolding countsBy
+  counted-all i h = rw (← ended i h, ← i .differing)

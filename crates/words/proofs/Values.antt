@@ -26,9 +26,6 @@ differ-at {a} {b} p q h = rw (← p, ← q) (ne-eqb a b h)
 pub same-at : {a b x y : ℕ} → a ≡ x → b ≡ y → a ≡ b → eqb x y ≡ true
 same-at {a} {b} p q h = rw (← p, ← q) (eq-eqb a b h)
 
-pub test-at : {a b x y : ℕ} → a ≡ x → b ≡ y → eqb a b ≡ eqb x y
-test-at p q = rw (p, q)
-
 -- two tests, the second of which is made where the first passes
 pub first-fails : (y : Bool) {a x : Bool} → a ≡ x → a ≡ false → false ≡ x && y
 first-fails y e h = rw (← e, h)

@@ -10,6 +10,7 @@ use Rattle.lists.specs.Lists.{cells, numbers, part, listed, firstTo}
 use Rattle.lists.specs.Sums.{allTo, countIf}
 use Rattle.bits.specs.Bits.{bitsOf, doubleOf}
 use Rattle.refusals.specs.Table.{workDoubles, workNumbers}
+use Rattle.words.specs.declared.Counts.{Counts}
 
 -- the value of a digit's byte, 0 to 9 or a to f
 unfoldable pub digitOf : ℕ → ℕ
@@ -90,10 +91,26 @@ wipes number = eqb number 0 || (eqb number 3 || (eqb number 7 || (eqb number 8 |
 unfoldable pub namesWiped : ℕ → ℕ → ℕ
 namesWiped number n = cond (ltb 256 n) 0 (cond (wipes number) n 0)
 
--- the cases of a text of n words, by where each starts: up to the first that would start behind the last word
-unfoldable pub casesBy : (ℕ → ℕ) → ℕ → ℕ
-casesBy start n = firstTo (λ j. leb n (start j)) (n + 1)
+-- where case j of a text starts: the first at 0, each other where `next` says that the one behind it starts
+unfoldable pub startBy : (ℕ → ℕ) → ℕ → ℕ
+startBy next zero = 0
+startBy next (suc j) = next (startBy next j)
 
--- how many of the first n cases are not right
-abbrev pub differBy : (ℕ → Bool) → ℕ → ℕ
-differBy right n = countIf (λ j. not (right j)) n
+-- the cases of a text that is n long: up to the first that would start at its end or behind it
+unfoldable pub casesBy : (ℕ → ℕ) → ℕ → ℕ
+casesBy next n = firstTo (λ j. leb n (startBy next j)) (n + 1)
+
+-- how many of the first k cases are not right, by where each starts
+abbrev pub differBy : (ℕ → ℕ) → (ℕ → Bool) → ℕ → ℕ
+differBy next right k = countIf (λ j. not (right (startBy next j))) k
+
+-- counts with one case more, which is right or not
+abbrev pub withCase : Counts → Bool → Counts
+withCase k right = record { cases = k .cases + 1; differ = k .differ + cond right 0 1 }
+
+-- the cases of a text that is n long, and how many of them are not right, by the case that stands at a place, where the one behind a case
+-- starts, and whether a case at a place is right
+unfoldable pub countsBy : {C : Type 0} → (ℕ → C) → (C → ℕ) → (ℕ → C → Bool) → ℕ → Counts
+countsBy case next right n =
+    let cases = casesBy (λ at. next (case at)) n in
+    record { cases = cases; differ = differBy (λ at. next (case at)) (λ at. right at (case at)) cases }

@@ -1,10 +1,9 @@
 // What the programs that run recorded cases share: the words of a text, one a line of 16 hex digits; what the lists of a
 // call must hold afterwards; what is printed.
-ghost use Prim.Native.Nat.{_≤_};
+ghost use Prim.Native.Nat.{_<_, _≤_};
 ghost use mathlib.Core.Path.{_≡_};
-ghost use mathlib.Core.Bool.{cond};
 ghost use lib.ListN.{length};
-ghost use Rattle.words.specs.Words.{digitOf, withDigit, valueOf, wordAt, wordFrom, sizeFrom, doublesFrom, wordsFrom, sameNumbers, sameDoubles, frontOf, numbersFrontOf, leftAt, leftDoubles, leftNumbers, leftLists, namesWiped};
+ghost use Rattle.words.specs.Words.{digitOf, withDigit, valueOf, wordAt, wordFrom, sizeFrom, doublesFrom, wordsFrom, sameNumbers, sameDoubles, frontOf, numbersFrontOf, leftAt, leftDoubles, leftNumbers, leftLists, namesWiped, withCase};
 
 // A text's bytes, by their count alone: a literal array would stand in every goal, cell by cell.
 pub fn text_buffer() -> [u8; 262144]
@@ -230,21 +229,29 @@ fn report(at: usize, kind: u64) {
     print_number(kind, b"\n");
 }
 
-// 0 for a case that is answered as expected, and 1 for one that differs, which it then reports.
-pub fn differs(right: bool, at: usize, kind: u64) -> u64
-    ensures { λ r. ⌜ (r ≡ cond right 0 1) × (r ≤ 1) ⌝ }
-{
-    if right {
-        return 0;
-    }
-    report(at, kind);
-    1
-}
-
 // How many cases ran, and how many of them differed.
 pub struct Counts {
     pub cases: u64,
     pub differ: u64,
+}
+
+// One case more, which is answered as expected, or differs and is reported.
+pub fn counted(counts: Counts, right: bool, at: usize, kind: u64) -> Counts
+    requires { ⌜ (counts .differ ≤ counts .cases) × (counts .cases < 0xffff_ffff_ffff_ffff) ⌝ }
+    ensures { λ r. ⌜ r ≡ withCase counts right ⌝ }
+{
+    let cases = counts.cases + 1;
+    if right {
+        return Counts {
+            cases,
+            differ: counts.differ,
+        };
+    }
+    report(at, kind);
+    Counts {
+        cases,
+        differ: counts.differ + 1,
+    }
 }
 
 // Prints both.

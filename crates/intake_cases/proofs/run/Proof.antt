@@ -1,37 +1,21 @@
-use Prim.Native.Nat.{_-_, _/_, _≤_}
-use mathlib.Core.Path.{_≡_, refl, _∙_, ap}
+use Prim.Native.Nat.{_-_, _/_}
+use mathlib.Core.Path.{_≡_, refl}
 use native.Mathlib.Omega.{arith}
 use lib.ListN.{length}
-use lib.Dec.{leb}
-use borrow.Author.Needs.{needs}
-use Rattle.lists.specs.Sums.{foldIf}
-use Rattle.lists.specs.Lists.{firstTo}
-use Rattle.lists.proofs.First.{first-more}
-use Rattle.words.specs.Words.{differBy}
-use Rattle.words.proofs.Counting.{cases-are, differ-more, not-ended}
-use Rattle.intake_cases.specs.Cases.{casesIn, differIn, rightAt, startOf}
-use Rattle.intake_cases.proofs.Laws.{right-at, start-more}
+use Rattle.words.proofs.Counting.{Counted, counted-none, counted-more, counted-all}
+use Rattle.intake_cases.specs.declared.Case.{Case}
+use Rattle.intake_cases.specs.Cases.{caseAt, rightCase, countsIn}
 use Rattle.intake_cases.proofs.run.Statement.{statement}
 use Rattle.intake_cases.proofs.run.Tie as tie
 
 abbrev Inv-loop : tie.InvT-loop
-Inv-loop text words at₀ cases₀ differ₀ at cases differ =
-    (words ≡ length text / 17)
-    × (words ≤ 15420)
-    × (at ≤ 20395)
-    × (cases ≤ at)
-    × (cases ≤ words)
-    × (differ ≤ cases)
-    × (at ≡ startOf text cases)
-    × (firstTo (λ j. leb (length text / 17) (startOf text j)) cases ≡ cases)
-    × (differ ≡ differBy (rightAt text) cases)
+Inv-loop text words at₀ counts₀ at counts = (words ≡ length text / 17) × Counted (caseAt text) (λ (x : Case). x .next) (rightCase text) words at counts
 
 abbrev μ-loop : tie.MeasureT-loop
-μ-loop text words at₀ cases₀ differ₀ at cases differ = words - at
+μ-loop text words at₀ counts₀ at counts = words - at
 
 loop-holds : tie.Need-loop-holds Inv-loop μ-loop
-unfolding startOf firstTo foldIf
-loop-holds c = (refl, omega arith, omega arith, omega arith, omega arith, omega arith, refl, refl, refl)
+loop-holds c = (refl, counted-none _ _ _ _)
 
 read-case-requires : tie.Need-read-case-requires Inv-loop μ-loop
 read-case-requires c κs = omega arith
@@ -39,46 +23,23 @@ read-case-requires c κs = omega arith
 right-case-requires : tie.Need-right-case-requires Inv-loop μ-loop
 right-case-requires c κs = (omega arith, c .read-case .ensures .1 .0)
 
-differs-requires : tie.Need-differs-requires Inv-loop μ-loop
-differs-requires c κs = tt
-
-add-differ : tie.Need-add-differ Inv-loop μ-loop
-add-differ c = search needs
-
-add-cases : tie.Need-add-cases Inv-loop μ-loop
-add-cases c = omega arith
-
-add-at : tie.Need-add-at Inv-loop μ-loop
-add-at c = search needs
+counted-requires : tie.Need-counted-requires Inv-loop μ-loop
+counted-requires c κs = omega arith
 
 loop-less : tie.Need-loop-less Inv-loop μ-loop
-loop-less c = search needs
+loop-less c = omega (arith, c .before .before .read-case .ensures .1 .1)
 
 loop-again : tie.Need-loop-again Inv-loop μ-loop
 loop-again c =
-    let i = c .before .before .before .before .before .loop .inv in
-    (i .0, i .1, search needs, search needs, omega arith, search needs, start-more _ _ (i .6) (c .before .before .before .read-case .ensures .0), first-more _ _ (i .7) (not-ended _ _ (i .6) (c .before .before .before .before .loop-test .taken)), differ-more (rightAt _) _ (right-at _ _ (i .6) (c .before .before .before .read-case .ensures .0) (c .before .before .right-case .ensures)) (c .before .differs .ensures .0) (i .8))
+    let i = c .before .before .before .before .loop .inv in
+    let e = c .before .before .read-case .ensures in
+    (i .0, counted-more _ _ _ _ (i .1) (c .before .before .before .loop-test .taken) (e .0) (e .1 .1) (c .before .right-case .ensures) (c .counted .ensures))
 
 returns : tie.Need-returns Inv-loop μ-loop
-unfolding casesIn differIn
-returns c =
-    let i = c .before .loop .inv in
-    let e = cases-are (startOf (c .before .before .before .args .text .now)) (i .6) (i .7) (c .loop-test .left) (i .4) in
-    (e, i .8 ∙ ap (differBy (rightAt (c .before .before .before .args .text .now))) e)
+unfolding countsIn
+returns c = counted-all _ _ _ _ (c .before .loop .inv .1) (c .loop-test .left)
 
 pub run-spec : {M : Type 1} → statement M
 run-spec =
     tie.close
-    (tie.spec
-    Inv-loop
-    μ-loop
-    loop-holds
-    read-case-requires
-    right-case-requires
-    differs-requires
-    add-differ
-    add-cases
-    add-at
-    loop-less
-    loop-again
-    returns)
+    (tie.spec Inv-loop μ-loop loop-holds read-case-requires right-case-requires counted-requires loop-less loop-again returns)

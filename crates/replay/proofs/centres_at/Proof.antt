@@ -2,8 +2,8 @@ use mathlib.Core.Path.{sym}
 use native.Mathlib.Omega.{arith}
 use lib.Seq.{length-take-le}
 use borrow.Author.Needs.{needs}
-use Rattle.lists.specs.Lists.{numbers}
-use Rattle.lists.proofs.Refilled.{buffer-length, refilled, refilled-front}
+use Rattle.lists.proofs.Refilled.{buffer-length}
+use Rattle.words.proofs.Buffers.{read-front}
 use Rattle.replay.proofs.centres_at.Statement.{statement}
 use Rattle.replay.proofs.centres_at.Tie as tie
 
@@ -20,9 +20,7 @@ numbers-requires : tie.Need-numbers-requires
 numbers-requires c κs = search needs
 
 returns : tie.Need-returns
-returns c =
-    let l = buffer-length 64 999 (c .before .before .before .number-buffer .ensures) in
-    (refilled 64 (c .before .before .before .before .before .args .n) (c .before .numbers .last .1 .1 .0) (c .before .before .before .number-buffer .result) l (c .before .before .before .before .before .pre) (c .before .numbers .kept .1 .1 .0), refilled-front _ 64 (c .before .before .before .before .before .args .n) (c .before .numbers .last .1 .1 .0) (c .before .before .before .number-buffer .result) l (c .before .before .before .before .before .pre) (c .before .numbers .ensures))
+returns c = read-front _ 64 (c .before .before .before .before .before .args .n) (c .before .before .before .number-buffer .result) (buffer-length 64 999 (c .before .before .before .number-buffer .ensures)) (c .before .before .before .before .before .pre) (c .before .numbers .ensures)
 
 pub centres-at-spec : {M : Type 1} → statement M
 centres-at-spec =

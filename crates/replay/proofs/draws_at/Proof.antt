@@ -2,7 +2,7 @@ use mathlib.Core.Path.{sym}
 use native.Mathlib.Omega.{arith}
 use lib.Seq.{length-take-le}
 use borrow.Author.Needs.{needs}
-use Rattle.lists.proofs.Refilled.{refilled, refilled-front}
+use Rattle.words.proofs.Buffers.{read-front}
 use Rattle.replay.proofs.draws_at.Statement.{statement}
 use Rattle.replay.proofs.draws_at.Tie as tie
 
@@ -19,7 +19,7 @@ draws-requires : tie.Need-draws-requires
 draws-requires c κs = search needs
 
 returns : tie.Need-returns
-returns c = (refilled 64 (c .before .before .before .before .before .args .n) (c .before .draws .last .1 .1 .0) (c .before .before .before .draw-buffer .result) (c .before .before .before .draw-buffer .ensures) (c .before .before .before .before .before .pre) (c .before .draws .kept .1 .1 .0), refilled-front _ 64 (c .before .before .before .before .before .args .n) (c .before .draws .last .1 .1 .0) (c .before .before .before .draw-buffer .result) (c .before .before .before .draw-buffer .ensures) (c .before .before .before .before .before .pre) (c .before .draws .ensures))
+returns c = read-front _ 64 (c .before .before .before .before .before .args .n) (c .before .before .before .draw-buffer .result) (c .before .before .before .draw-buffer .ensures) (c .before .before .before .before .before .pre) (c .before .draws .ensures)
 
 pub draws-at-spec : {M : Type 1} → statement M
 draws-at-spec =

@@ -2,7 +2,7 @@ use mathlib.Core.Path.{sym}
 use native.Mathlib.Omega.{arith}
 use lib.Seq.{length-take-le}
 use borrow.Author.Needs.{needs}
-use Rattle.lists.proofs.Refilled.{refilled, refilled-front}
+use Rattle.words.proofs.Buffers.{read-front}
 use Rattle.replay.proofs.points_at.Statement.{statement}
 use Rattle.replay.proofs.points_at.Tie as tie
 
@@ -19,7 +19,7 @@ doubles-requires : tie.Need-doubles-requires
 doubles-requires c κs = search needs
 
 returns : tie.Need-returns
-returns c = (refilled 256 (c .before .before .before .before .before .args .n) (c .before .doubles .last .1 .1 .0) (c .before .before .before .point-buffer .result) (c .before .before .before .point-buffer .ensures) (c .before .before .before .before .before .pre) (c .before .doubles .kept .1 .1 .0), refilled-front _ 256 (c .before .before .before .before .before .args .n) (c .before .doubles .last .1 .1 .0) (c .before .before .before .point-buffer .result) (c .before .before .before .point-buffer .ensures) (c .before .before .before .before .before .pre) (c .before .doubles .ensures))
+returns c = read-front _ 256 (c .before .before .before .before .before .args .n) (c .before .before .before .point-buffer .result) (c .before .before .before .point-buffer .ensures) (c .before .before .before .before .before .pre) (c .before .doubles .ensures)
 
 pub points-at-spec : {M : Type 1} → statement M
 points-at-spec =

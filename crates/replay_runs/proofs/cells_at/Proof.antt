@@ -1,7 +1,7 @@
 use mathlib.Core.Path.{sym}
 use native.Mathlib.Omega.{arith}
 use lib.Seq.{length-take-le}
-use Rattle.lists.proofs.Refilled.{refilled, refilled-front}
+use Rattle.words.proofs.Buffers.{read-front}
 use Rattle.replay_runs.proofs.cells_at.Statement.{statement}
 use Rattle.replay_runs.proofs.cells_at.Tie as tie
 
@@ -18,7 +18,7 @@ doubles-requires : tie.Need-doubles-requires
 doubles-requires c κs = tt
 
 returns : tie.Need-returns
-returns c = (refilled 144 (c .before .before .before .before .before .args .n) (c .before .doubles .last .1 .1 .0) (c .before .before .before .cell-buffer .result) (c .before .before .before .cell-buffer .ensures) (c .before .before .before .before .before .pre) (c .before .doubles .kept .1 .1 .0), refilled-front _ 144 (c .before .before .before .before .before .args .n) (c .before .doubles .last .1 .1 .0) (c .before .before .before .cell-buffer .result) (c .before .before .before .cell-buffer .ensures) (c .before .before .before .before .before .pre) (c .before .doubles .ensures))
+returns c = read-front _ 144 (c .before .before .before .before .before .args .n) (c .before .before .before .cell-buffer .result) (c .before .before .before .cell-buffer .ensures) (c .before .before .before .before .before .pre) (c .before .doubles .ensures)
 
 pub cells-at-spec : {M : Type 1} → statement M
 cells-at-spec =
