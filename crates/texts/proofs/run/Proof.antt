@@ -27,19 +27,19 @@ counted-requires : tie.Need-counted-requires Inv-loop μ-loop
 counted-requires c κs = omega (arith, c .before .before .before .before .before .pre)
 
 add-at : tie.Need-add-at Inv-loop μ-loop
-add-at c = omega (arith, c .before .before .read-case .ensures .2, c .before .before .before .before .before .before .pre)
+add-at c = omega (arith, c .before .before .before .read-case .ensures .2, c .before .before .before .before .before .before .before .pre)
 
 add-at-2 : tie.Need-add-at-2 Inv-loop μ-loop
-add-at-2 c = omega (arith, c .before .before .before .read-case .ensures .2, c .before .before .before .before .before .before .before .pre)
+add-at-2 c = omega (arith, c .before .before .before .before .read-case .ensures .2, c .before .before .before .before .before .before .before .before .pre)
 
 loop-less : tie.Need-loop-less Inv-loop μ-loop
-loop-less c = omega (arith, c .before .before .before .read-case .ensures .1)
+loop-less c = omega (arith, c .before .before .before .before .read-case .ensures .1)
 
 loop-again : tie.Need-loop-again Inv-loop μ-loop
 loop-again c =
-    let i = c .before .before .before .before .before .loop .inv in
-    let e = c .before .before .before .read-case .ensures in
-    (i .0, counted-more _ _ _ _ (i .1) (c .before .before .before .before .loop-test .taken) (e .0) (omega (arith, e .1)) (c .before .before .right-case .ensures) (c .before .counted .ensures))
+    let i = c .before .before .before .before .before .before .loop .inv in
+    let e = c .before .before .before .before .read-case .ensures in
+    (i .0, counted-more _ _ _ _ (i .1) (c .before .before .before .before .before .loop-test .taken) (e .0) (omega (arith, e .1)) (c .before .before .before .right-case .ensures) (c .before .before .counted .ensures))
 
 returns : tie.Need-returns Inv-loop μ-loop
 unfolding countsIn
