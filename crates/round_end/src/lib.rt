@@ -12,10 +12,12 @@ ghost use Rattle.improve.specs.Steps.{stateOf};
 ghost use Rattle.round_end.specs.Steps.{InnerEnded, WorkLists, RoundEnded};
 use choice::check_improve_clusters;
 
-// The partition that is chosen as the answer, by the mean t-stats of the new one and of the weak groups of the old one.
+// The partition that is chosen as the answer, by the mean t-stats of the new one and of the weak groups of the old one; and how many groups it has.
 fn choose<'a>(
     new_mean: f64,
     old_mean: f64,
+    old_groups: usize,
+    new_groups: usize,
     old_order: &'a [usize],
     new_order: &'a [usize],
     old_sizes: &'a [usize],
@@ -25,10 +27,10 @@ fn choose<'a>(
     order: &mut [usize],
     sizes: &mut [usize],
     scores: &mut [f64],
-)
+) -> usize
     requires { ⌜ (length (now «old_order») ≡ length (now order)) × (length (now «new_order») ≡ length (now order)) × (length (now «old_sizes») ≡ length (now sizes)) × (length (now «new_sizes») ≡ length (now sizes))
         × (length (now «old_scores») ≡ length (now scores)) × (length (now «new_scores») ≡ length (now scores)) ⌝ }
-    ensures { λ _. ⌜ (now (order .exit) ≡ chosen «new_mean» «old_mean» (now («old_order» .entry)) (now («new_order» .entry)))
+    ensures { λ r. ⌜ (r ≡ chosen «new_mean» «old_mean» «old_groups» «new_groups») × (now (order .exit) ≡ chosen «new_mean» «old_mean» (now («old_order» .entry)) (now («new_order» .entry)))
         × (now (sizes .exit) ≡ chosen «new_mean» «old_mean» (now («old_sizes» .entry)) (now («new_sizes» .entry)))
         × (now (scores .exit) ≡ chosen «new_mean» «old_mean» (now («old_scores» .entry)) (now («new_scores» .entry))) ⌝ }
 {
@@ -42,9 +44,10 @@ fn choose<'a>(
     );
     if new_mean > old_mean {
         lists::copy(new_scores, scores);
-        return;
+        return new_groups;
     }
     lists::copy(old_scores, scores);
+    old_groups
 }
 
 // The better of the round's base, of `count` groups, and the partition in which the inner one, of `inner` groups, stands for its weak groups. The
@@ -102,6 +105,8 @@ fn end_with(
     choose(
         improved.mean,
         weak.mean,
+        count,
+        improved.groups,
         &wi[n..second],
         new_order,
         &wi[from..third],
@@ -111,12 +116,7 @@ fn end_with(
         order,
         sizes,
         scores,
-    );
-    if improved.mean > weak.mean {
-        improved.groups
-    } else {
-        count
-    }
+    )
 }
 
 // The same, with working lists of its own. Inner form.

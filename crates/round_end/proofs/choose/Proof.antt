@@ -1,4 +1,4 @@
-use mathlib.Core.Path.{_∙_, _≡_}
+use mathlib.Core.Path.{_∙_, _≡_, refl}
 use mathlib.Core.Bool.{false, true}
 use mathlib.Core.List.{List}
 use lib.Ieee.{Float, lt}
@@ -35,6 +35,7 @@ returns : tie.Need-returns
 returns c =
     let t : lt (c .before .before .before .before .before .before .before .before .before .before .before .before .before .before .before .before .before .before .before .before .before .before .before .before .args .old-mean) (c .before .before .before .before .before .before .before .before .before .before .before .before .before .before .before .before .before .before .before .before .before .before .before .before .args .new-mean) ≡ true = c .before .before .before .before .if1 .taken in
     let e : _≡_ {A = List Float} (c .before .before .copy .last .1 .0) (c .before .before .before .before .before .before .before .before .before .before .before .before .before .before .before .before .before .before .before .before .before .before .before .before .args .new-scores .now) = c .before .before .copy .ensures in (
+      rw t refl,
       c .before .before .before .before .before .before .before .before .before .before .before .before .copy-numbers .ensures ∙ kept-list (c .before .before .before .before .before .before .before .before .before .before .before .before .before .before .before .before .before .before .before .before .before .before .before .before .args .new-mean) (c .before .before .before .before .before .before .before .before .before .before .before .before .before .before .before .before .before .before .before .before .before .before .before .before .args .old-mean) _ _ (c .before .before .before .before .before .before .before .before .before .before .before .before .before .before .check-improve-clusters .ensures),
       c .before .before .before .before .before .before .before .copy-numbers2 .ensures ∙ kept-list (c .before .before .before .before .before .before .before .before .before .before .before .before .before .before .before .before .before .before .before .before .before .before .before .before .args .new-mean) (c .before .before .before .before .before .before .before .before .before .before .before .before .before .before .before .before .before .before .before .before .before .before .before .before .args .old-mean) _ _ (c .before .before .before .before .before .before .before .before .before .check-improve-clusters2 .ensures),
       rw t e,
@@ -56,6 +57,7 @@ returns-2 : tie.Need-returns-2
 returns-2 c =
     let t : lt (c .before .before .before .before .before .before .before .before .before .before .before .before .before .before .before .before .before .before .before .before .before .before .before .before .args .old-mean) (c .before .before .before .before .before .before .before .before .before .before .before .before .before .before .before .before .before .before .before .before .before .before .before .before .args .new-mean) ≡ false = c .before .before .before .before .if1 .left in
     let e : _≡_ {A = List Float} (c .before .before .copy2 .last .1 .0) (c .before .before .before .before .before .before .before .before .before .before .before .before .before .before .before .before .before .before .before .before .before .before .before .before .args .old-scores .now) = c .before .before .copy2 .ensures in (
+      rw t refl,
       c .before .before .before .before .before .before .before .before .before .before .before .before .copy-numbers .ensures ∙ kept-list (c .before .before .before .before .before .before .before .before .before .before .before .before .before .before .before .before .before .before .before .before .before .before .before .before .args .new-mean) (c .before .before .before .before .before .before .before .before .before .before .before .before .before .before .before .before .before .before .before .before .before .before .before .before .args .old-mean) _ _ (c .before .before .before .before .before .before .before .before .before .before .before .before .before .before .check-improve-clusters .ensures),
       c .before .before .before .before .before .before .before .copy-numbers2 .ensures ∙ kept-list (c .before .before .before .before .before .before .before .before .before .before .before .before .before .before .before .before .before .before .before .before .before .before .before .before .args .new-mean) (c .before .before .before .before .before .before .before .before .before .before .before .before .before .before .before .before .before .before .before .before .before .before .before .before .args .old-mean) _ _ (c .before .before .before .before .before .before .before .before .before .check-improve-clusters2 .ensures),
       rw t e,
