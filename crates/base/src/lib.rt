@@ -71,8 +71,8 @@ fn base_of_book(
     }
 }
 
-// The best candidate's groups and scores, with the draws from place `at` on, for the book that the rows make. The areas are left with
-// anything, and so are the other lists where there is no base.
+// The best candidate's groups and scores, with the draws from place `at` on, for the book that the rows make. Inner form. The areas
+// hold anything afterwards, and so do the other lists where there is no base.
 pub fn cluster_kmeans_base(
     book: &[f64],
     n: usize,

@@ -1,4 +1,4 @@
--- The candidates of a round of m items, whose columns are x, and the best of them. Definitions only.
+-- The candidates of a round of m items, and the best of them; x i c is item i's column c, its distance to item c. Definitions only.
 use Prim.Native.Nat.{ℕ, zero, suc, _+_, _-_, max}
 use mathlib.Core.Bool.{Bool, true, cond, _&&_, _||_}
 use mathlib.Core.List.{List}

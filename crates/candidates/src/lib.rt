@@ -5,7 +5,7 @@ ghost use lib.ListN.{length, take, drop};
 ghost use Rattle.columns.specs.Columns.{pointsAt};
 ghost use Rattle.draws.specs.Counts.{seedingOf, countOf};
 ghost use Rattle.clustering.specs.Steps as clustering_steps;
-ghost use Rattle.scoring.specs.Scoring.{Round};
+ghost use Rattle.scoring.specs.Scoring.{Prepared};
 ghost use Rattle.candidates.specs.Candidates.{candidateFrom, triesFrom, tries, bestOf};
 ghost use Rattle.candidates.specs.Steps.{TriedBy, SearchedBy, Enough, Lists, bestFrom, replacesKept};
 use clustering::Clustered;
@@ -47,8 +47,8 @@ fn replaces(stat: f64, mean: f64, kept: Kept) -> bool
     }
 }
 
-// The candidate with k groups, with the draws from place `at` on: its labels and its scores in the lent lists. The fifth area is left with
-// anything.
+// The candidate with k groups, with the draws from place `at` on: its labels and its scores in the lent lists. The fifth area holds
+// anything afterwards.
 fn candidate(
     area: &mut [f64],
     m: usize,
@@ -58,7 +58,7 @@ fn candidate(
     labels: &mut [usize],
     scores: &mut [f64],
 ) -> Tried
-    requires { ⌜ Round (now area) m × clustering_steps.Enough m k (now draws) at × (length (now labels) ≡ m) × (length (now scores) ≡ m) ⌝ }
+    requires { ⌜ Prepared (now area) m × clustering_steps.Enough m k (now draws) at × (length (now labels) ≡ m) × (length (now scores) ≡ m) ⌝ }
     ensures { λ r. ⌜ TriedBy (candidateFrom (pointsAt (now (area .entry)) m) m k at (drop at (now (draws .entry)))) (at + seedingOf k) r (now (labels .exit)) (now (scores .exit)) ⌝ }
     ensures { λ _. ⌜ take (4 * (m * m)) (now (area .exit)) ≡ take (4 * (m * m)) (now (area .entry)) ⌝ }
 {
@@ -86,7 +86,7 @@ fn try_k(
     new_labels: &mut [usize],
     new_scores: &mut [f64],
 ) -> Searched
-    requires { ⌜ Round (now area) m × clustering_steps.Enough m k (now draws) at × Lists m (now labels) (now scores) (now «new_labels») (now «new_scores») ⌝ }
+    requires { ⌜ Prepared (now area) m × clustering_steps.Enough m k (now draws) at × Lists m (now labels) (now scores) (now «new_labels») (now «new_scores») ⌝ }
     ensures { λ r. ⌜ SearchedBy (triesFrom (pointsAt (now (area .entry)) m) m k 1 (bestFrom kept (now (labels .entry)) (now (scores .entry))) at (drop at (now (draws .entry))))
         (at + seedingOf k) r (now (labels .exit)) (now (scores .exit)) ⌝ }
     ensures { λ _. ⌜ take (4 * (m * m)) (now (area .exit)) ≡ take (4 * (m * m)) (now (area .entry)) ⌝ }
@@ -128,7 +128,7 @@ fn each_k(
     new_labels: &mut [usize],
     new_scores: &mut [f64],
 ) -> Searched
-    requires { ⌜ Round (now area) m × (2 ≤ m) × (from + countOf m ≤ length (now draws)) × Lists m (now labels) (now scores) (now «new_labels») (now «new_scores») ⌝ }
+    requires { ⌜ Prepared (now area) m × (2 ≤ m) × (from + countOf m ≤ length (now draws)) × Lists m (now labels) (now scores) (now «new_labels») (now «new_scores») ⌝ }
     ensures { λ r. ⌜ SearchedBy (triesFrom (pointsAt (now (area .entry)) m) m 2 (tries m) (bestFrom kept (now (labels .entry)) (now (scores .entry))) from (drop from (now (draws .entry))))
         (from + countOf m) r (now (labels .exit)) (now (scores .exit)) ⌝ }
     ensures { λ _. ⌜ take (4 * (m * m)) (now (area .exit)) ≡ take (4 * (m * m)) (now (area .entry)) ⌝ }
@@ -173,7 +173,7 @@ fn each_repeat(
     new_labels: &mut [usize],
     new_scores: &mut [f64],
 ) -> Searched
-    requires { ⌜ Round (now area) m × Enough m repeat (now draws) from × Lists m (now labels) (now scores) (now «new_labels») (now «new_scores») ⌝ }
+    requires { ⌜ Prepared (now area) m × Enough m repeat (now draws) from × Lists m (now labels) (now scores) (now «new_labels») (now «new_scores») ⌝ }
     ensures { λ r. ⌜ SearchedBy (bestOf (pointsAt (now (area .entry)) m) m repeat from (drop from (now (draws .entry)))) (from + repeat * countOf m) r (now (labels .exit)) (now (scores .exit)) ⌝ }
 {
     let mut at = from;
@@ -203,7 +203,7 @@ fn each_repeat(
 }
 
 // The best candidate of all repeats, with the draws from place `at` on: its labels and its scores in the lent lists, where there is one.
-// Inner form. The areas are left with anything, and so are the lists where there is none or a draw is out of range.
+// Inner form. The areas hold anything afterwards, and so do the lists where there is none or a draw is out of range.
 pub fn best_candidate(
     area: &mut [f64],
     m: usize,
@@ -213,7 +213,7 @@ pub fn best_candidate(
     labels: &mut [usize],
     scores: &mut [f64],
 ) -> Searched
-    requires { ⌜ Round (now area) m × Enough m repeat (now draws) at × (length (now labels) ≡ m) × (length (now scores) ≡ m) ⌝ }
+    requires { ⌜ Prepared (now area) m × Enough m repeat (now draws) at × (length (now labels) ≡ m) × (length (now scores) ≡ m) ⌝ }
     ensures { λ r. ⌜ SearchedBy (bestOf (pointsAt (now (area .entry)) m) m repeat at (drop at (now (draws .entry)))) (at + repeat * countOf m) r (now (labels .exit)) (now (scores .exit)) ⌝ }
 {
     let mut new_labels = lists::number_buffer();

@@ -23,7 +23,7 @@ ghost use Rattle.lloyd.specs.Passes.{lloydLabels};
 ghost use Rattle.lloyd.specs.Area.{Held, Centres};
 ghost use Rattle.clustering.specs.Clustering.{kmeansOf};
 ghost use Rattle.clustering.specs.Steps.{Enough, labelsAfter};
-ghost use Rattle.scoring.specs.Scoring.{scoresOf, Round};
+ghost use Rattle.scoring.specs.Scoring.{scoresOf, Prepared};
 ghost use Rattle.harness_exports.specs.Reported.{reportedOf};
 ghost use Rattle.harness_exports.specs.Next.{nextAfter};
 use clustering::Clustered;
@@ -209,7 +209,7 @@ pub extern "C" fn onc_scores_in(
     k: usize,
     scores: &mut [f64],
 )
-    requires { ⌜ Round (now area) m × (length (now labels) ≡ m) × (length (now scores) ≡ m) × (k ≤ m) × ((i : ℕ) → i < m → numbers (now labels) i < k) ⌝ }
+    requires { ⌜ Prepared (now area) m × (length (now labels) ≡ m) × (length (now scores) ≡ m) × (k ≤ m) × ((i : ℕ) → i < m → numbers (now labels) i < k) ⌝ }
     ensures { λ _. ⌜ now (scores .exit) ≡ scoresOf (pointsAt (now (area .entry)) m) m (numbers (now (labels .entry))) ⌝ }
 {
     scoring::scores_in(area, m, labels, k, scores);

@@ -19,7 +19,7 @@ use Rattle.partition.specs.Partition.{Partition, State, joined, groupAt, labelO
 use Rattle.partition.specs.Orders.{sizesOf, cut, Sized}
 use Rattle.quality.specs.Quality.{qualitiesOf, average, weak, weakCount, weakMean, picked, onSide, weakGroups, keptGroups}
 use Rattle.improve.specs.Improve.{weakItems, translated, mergedOf, rescored, meanQuality}
-use Rattle.improve.specs.Steps.{stateOf, Weakened, Kept, Behind, Appended, Scored, PartitionLists, Improvable, Merged, Improves}
+use Rattle.improve.specs.Steps.{stateOf, WeakListed, Kept, Behind, Appended, Scored, PartitionLists, Improvable, Merged, Improves}
 use Rattle.scoring.proofs.Laws.{book-points, scores-same}
 use Rattle.partition.proofs.Members.{joined-append}
 use Rattle.partition.proofs.Cuts.{cut-length, cut-order, cut-joined, sized-of, partition-length, groups-few}
@@ -45,7 +45,7 @@ module _ (count : ℕ) (sizes order : List ℕ) (scores : List Float) {qs : List
   pub weakened : {groups items : ℕ} {mean : Float} {list list′ : List ℕ} → groups ≡ weakCount qs → mean ≡ weakMean qs
       → items ≡ length (joined (picked (onSide qs limit true) (cut (length qs) sizes order)))
       → list′ ≡ joined (picked (onSide qs limit true) (cut (length qs) sizes order)) ++ drop (length (joined (picked (onSide qs limit true) (cut (length qs) sizes order)))) list
-      → Weakened (stateOf count sizes order scores) groups items mean list list′
+      → WeakListed (stateOf count sizes order scores) groups items mean list list′
   unfolding weakItems
   weakened {groups} {items} {mean} {list} {list′} g m i f =
       record {

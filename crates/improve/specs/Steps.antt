@@ -16,7 +16,7 @@ abbrev pub stateOf : ℕ → List ℕ → List ℕ → List Float → State
 stateOf count sizes order scores = record { groups = cut count sizes order; scores = scores }
 
 -- the weak groups of s, and their items at the front of a list
-pub record Weakened (s : State) (groups items : ℕ) (mean : Float) (list list′ : List ℕ) : Type 0 where
+pub record WeakListed (s : State) (groups items : ℕ) (mean : Float) (list list′ : List ℕ) : Type 0 where
   pub groups-are : groups ≡ weakCount (qualitiesOf (s .scores) (s .groups))
   pub items-are : items ≡ length (weakItems s)
   pub mean-is : mean ≡ weakMean (qualitiesOf (s .scores) (s .groups))

@@ -8,7 +8,7 @@ ghost use Rattle.partition.specs.Partition.{labelOf};
 ghost use Rattle.partition.specs.Orders.{cut, Sized};
 ghost use Rattle.quality.specs.Quality.{keptGroups};
 ghost use Rattle.improve.specs.Improve.{mergedOf, rescored, meanQuality};
-ghost use Rattle.improve.specs.Steps.{stateOf, Weakened, Kept, Behind, Appended, Scored, Improvable, Merged, Improves};
+ghost use Rattle.improve.specs.Steps.{stateOf, WeakListed, Kept, Behind, Appended, Scored, Improvable, Merged, Improves};
 use quality::Picked;
 
 // How many groups are weak, how many items they have, and the plain average of their t-stats.
@@ -34,7 +34,7 @@ fn weak_with(
     counts: &mut [usize],
 ) -> Weak
     requires { ⌜ Sized (length (now scores)) (length (now qs)) (now order) (now sizes) × (length (now items) ≡ length (now scores)) × (length (now counts) ≡ length (now scores)) ⌝ }
-    ensures { λ r. ⌜ Weakened (stateOf (length (now (qs .entry))) (now (sizes .entry)) (now (order .entry)) (now (scores .entry))) (r .groups) (r .items) (r .mean) (now (items .entry)) (now (items .exit)) ⌝ }
+    ensures { λ r. ⌜ WeakListed (stateOf (length (now (qs .entry))) (now (sizes .entry)) (now (order .entry)) (now (scores .entry))) (r .groups) (r .items) (r .mean) (now (items .entry)) (now (items .exit)) ⌝ }
 {
     quality::qualities(order, sizes, scores, qs);
     let limit = quality::average(qs);
@@ -55,7 +55,7 @@ pub fn weak_items(
     items: &mut [usize],
 ) -> Weak
     requires { ⌜ Sized (length (now scores)) count (now order) (now sizes) × (length (now items) ≡ length (now scores)) ⌝ }
-    ensures { λ r. ⌜ Weakened (stateOf count (now (sizes .entry)) (now (order .entry)) (now (scores .entry))) (r .groups) (r .items) (r .mean) (now (items .entry)) (now (items .exit)) ⌝ }
+    ensures { λ r. ⌜ WeakListed (stateOf count (now (sizes .entry)) (now (order .entry)) (now (scores .entry))) (r .groups) (r .items) (r .mean) (now (items .entry)) (now (items .exit)) ⌝ }
 {
     let m = scores.len();
     let mut qs = lists::row_buffer();
@@ -214,8 +214,8 @@ fn merge(
     groups
 }
 
-// The partition whose weak groups were clustered again, in `out` and `counts`, and its scores on the book that the rows make. The areas are left
-// with anything.
+// The partition whose weak groups were clustered again, in `out` and `counts`, and its scores on the book that the rows make. The areas
+// hold anything afterwards. Inner form.
 pub fn improve_clusters(
     book: &[f64],
     n: usize,

@@ -15,7 +15,7 @@ use Rattle.lists.proofs.Grid.{grid-at}
 use Rattle.distance.specs.Distance.{through, distAt}
 use Rattle.draws.specs.Draws.{Drawn, drawn, refused}
 use Rattle.draws.specs.declared.Stop.the-variants.{Rounds, Short, DrawOutOfRange, ClusteringFailed}
-use Rattle.partition.specs.Partition.{Partition, State, has, joined, groupAt}
+use Rattle.partition.specs.Partition.{Partition, State, has, labelOf, joined, groupAt}
 use Rattle.partition.specs.Orders.{sizesOf}
 use Rattle.draws.proofs.Taken.{Ends}
 use Rattle.draws.proofs.Bad.{Reads}
@@ -25,11 +25,12 @@ use Rattle.candidates.proofs.Laws.{Found, best-took}
 use Rattle.candidates.proofs.Bad.{best-bad}
 use Rattle.candidates.proofs.Failed.{best-none}
 use Rattle.rounds.specs.Round.{Run, done, ended, roundOf, needOf, totalOf}
-use Rattle.partition.proofs.Cuts.{cut-joined, groups-few}
+use Rattle.partition.proofs.Cuts.{cut-joined, groups-few, partition-length}
+use Rattle.partition.proofs.Labels.{label-is, member-below}
 use Rattle.rounds.proofs.Runs.{Whole, whole}
 use Rattle.rounds.proofs.Spends.{ReachedFrom, start, further, BadDraw, NoCandidate, Spends, spends, searchOf as searchFrom, draws-none, draws-more, draws-one}
 use Rattle.onc.specs.Onc.{Lists, Outcome, runOf, finalOf, ran, groupOf}
-use Rattle.onc.specs.Demands.{Within, GroupingOf, searchOf, Reached, first, next, MeetsDraw, MeetsNone, EndsWith, Demand2}
+use Rattle.onc.specs.Demands.{Within, outputs, groupsIn, labelsIn, GroupingOf, searchOf, Reached, first, next, MeetsDraw, MeetsNone, NoneRefused, Demand2}
 use Rattle.onc.proofs.Calls.{within-ran}
 
 -- the rows of the first round
@@ -53,6 +54,15 @@ ordered-at : (book : List Float) (n : ℕ) (order : List ℕ) (i j : ℕ) → i 
 unfolding through
 ordered-at book n order i j h l = grid-at (through book n order) n i j nan h l
 
+-- the label of a name is the number of its group
+label-at : (book : List Float) (n : ℕ) (s : State) (ms : List ℕ) (read : ℕ) (rest : List ℕ) (l : Lists) → Partition n (s .groups) → (g i : ℕ)
+    → has (groupAt (s .groups) g) i ≡ true → numbers (labelsIn n (outputs (ran book n (done s ms read rest) l))) i ≡ g
+label-at book n s ms read rest l p g i h =
+    let same : groupsIn (outputs (ran book n (done s ms read rest) l)) ≡ s .groups = cut-joined (s .groups) n (groups-few p) in
+    getD-listed (labelOf (groupsIn (outputs (ran book n (done s ms read rest) l)))) n i 0 (member-below p g i h)
+    ∙ ap (λ (gs : List (List ℕ)). labelOf gs i) same
+    ∙ label-is p g i h
+
 -- a run that ends in a partition leaves it in the outputs
 ran-grouping : (book : List Float) (n : ℕ) (s : State) (ms : List ℕ) (read : ℕ) (rest : List ℕ) (l : Lists) → Partition n (s .groups) → length (s .scores) ≡ n
     → GroupingOf book n s (ran book n (done s ms read rest) l)
@@ -64,7 +74,10 @@ ran-grouping book n s ms read rest l p long =
       groups = cut-joined (s .groups) n few;
       numbered = λ g h. let inside : g < n = omega arith in omega (arith, size-at n (s .groups) g inside, p .some g h);
       no-more = no-size n (s .groups);
+      labels = λ g i h. label-at book n s ms read rest l p g i h;
       order = refl;
+      order-long = partition-length p;
+      sizes = refl;
       scores = refl;
       scores-long = long;
       ordered-long = length-listed (flat (through book n (joined (s .groups))) n) (n * n);
@@ -133,7 +146,7 @@ module _ (book : List Float) (n repeat : ℕ) (draws : List ℕ) where
             (best-bad (distAt book n (k .items)) m repeat draws at (omega (arith, e, k .enough))),
       )
 
-  -- a run that finds no candidate has none with a t-stat that is a number
+  -- a run that finds no candidate has none with a t-stat above -infinity
   pub meets-none : (ms : List ℕ) → NoCandidate book n repeat 32 (all n) 0 draws ms → MeetsNone book n repeat draws ms
   meets-none ms k =
       let at = totalOf repeat (k .before) in
@@ -148,24 +161,32 @@ module _ (book : List Float) (n repeat : ℕ) (draws : List ℕ) where
         best-none (distAt book n (k .items)) (length (k .items)) repeat (k .some) at (drop at draws) (k .rest) met,
       )
 
-  of-enough : 32 * needOf repeat n ≤ length draws → (r : Run) → Spends book n repeat 32 (all n) 0 draws r → EndsWith book n repeat draws r
-  of-enough h (done s ms read rest) k = tt
-  of-enough h (ended Rounds ms) k = k .count
-  of-enough h (ended (Short p) ms) k =
+  -- the first round's count for each of 32 rounds is enough
+  not-seven : 32 * needOf repeat n ≤ length draws → (r : Run) → Spends book n repeat 32 (all n) 0 draws r → has (0 ∷ 9 ∷ 8 ∷ 3 ∷ []) (finalOf r .refused .number) ≡ true
+  unfolding has
+  not-seven h (done s ms read rest) k = refl
+  not-seven h (ended Rounds ms) k = refl
+  not-seven h (ended (Short p) ms) k =
       let e : needOf repeat (length (all n)) ≡ needOf repeat n = ap (needOf repeat) (all-length n) in
       let y : ⊥ = omega (arith, k .least, ap (λ (c : ℕ). 32 * c) e) in
-      y
-  of-enough h (ended (DrawOutOfRange p) ms) k = meets-draw p ms k
-  of-enough h (ended ClusteringFailed ms) k = meets-none ms k
+      absurd y
+  not-seven h (ended (DrawOutOfRange p) ms) k = refl
+  not-seven h (ended ClusteringFailed ms) k = refl
 
--- the number of a call, from how its run ends
-not-seven : (book : List Float) (n repeat : ℕ) (draws : List ℕ) (r : Run) → EndsWith book n repeat draws r → has (0 ∷ 9 ∷ 8 ∷ 3 ∷ []) (finalOf r .refused .number) ≡ true
-unfolding has
-not-seven book n repeat draws (done s ms read rest) h = refl
-not-seven book n repeat draws (ended Rounds ms) h = refl
-not-seven book n repeat draws (ended (Short k) ms) h = absurd h
-not-seven book n repeat draws (ended (DrawOutOfRange p) ms) h = refl
-not-seven book n repeat draws (ended ClusteringFailed ms) h = refl
+  -- a run that no refusal ends is done
+  none-refused : NoneRefused book n repeat draws → (r : Run) → Spends book n repeat 32 (all n) 0 draws r
+      → (s : State) × (ms : List ℕ) × (read : ℕ) × (rest : List ℕ) × (r ≡ done s ms read rest)
+  none-refused h (done s ms read rest) k = (s, ms, read, rest, refl)
+  none-refused h (ended Rounds ms) k =
+      let y : ⊥ = omega (arith, k .count, h .few ms (k .items) (reached-same (k .reached))) in
+      absurd y
+  none-refused h (ended (Short p) ms) k =
+      let y : ⊥ = omega (arith, k .short, h .enough ms (k .items) (reached-same (k .reached))) in
+      absurd y
+  none-refused h (ended (DrawOutOfRange p) ms) k =
+      let met = meets-draw p ms k in
+      absurd (h .in-range (met .0) (met .1) p (met .2) (met .10))
+  none-refused h (ended ClusteringFailed ms) k = let met = meets-none ms k in absurd (h .candidate (met .0) (met .1) (met .2) (met .7))
 
 -- number 0 is a run that ended in a partition
 of-zero : (r : Run) → finalOf r .refused .number ≡ 0 → (s : State) × (ms : List ℕ) × (read : ℕ) × (rest : List ℕ) × (r ≡ done s ms read rest)
@@ -179,20 +200,26 @@ pub second : (book : List Float) (n repeat : ℕ) (draws : List ℕ) (l : Lists)
 second book n repeat draws l w =
     record {
       exact = exact;
-      enough = ends;
-      not-short = λ h. ap (has (0 ∷ 9 ∷ 8 ∷ 3 ∷ [])) number ∙ not-seven book n repeat draws (runOf book n repeat draws) (ends h);
-      grouped = λ h. of-zero (runOf book n repeat draws) (sym number ∙ h);
-      grouping = λ s ms read rest e.
-          let h : Whole n (done s ms read rest) = subst (Whole n) e (run-whole book n repeat draws (w .two)) in
-          let o : groupOf book n n repeat draws l ≡ ran book n (done s ms read rest) l = exact ∙ ap (λ (r : Run). ran book n r l) e in
-          subst (GroupingOf book n s) (sym o) (ran-grouping book n s ms read rest l (h .0) (h .1));
+      answered = λ h. let d = none-refused book n repeat draws h r took in (d .0, d .1, d .2, d .3, d .4, grouping (d .0) (d .1) (d .2) (d .3) (d .4));
+      not-short = λ h. ap (has (0 ∷ 9 ∷ 8 ∷ 3 ∷ [])) number ∙ not-seven book n repeat draws h r took;
+      grouped = λ h. of-zero r (sym number ∙ h);
+      grouping = grouping;
     }
   where
-    exact : groupOf book n n repeat draws l ≡ ran book n (runOf book n repeat draws) l
+    r : Run
+    r = runOf book n repeat draws
+
+    took : Spends book n repeat 32 (all n) 0 draws r
+    took = run-spends book n repeat draws (w .two)
+
+    exact : groupOf book n n repeat draws l ≡ ran book n r l
     exact = within-ran book n repeat draws l w
 
-    number : groupOf book n n repeat draws l .answer .refused .number ≡ finalOf (runOf book n repeat draws) .refused .number
+    number : groupOf book n n repeat draws l .answer .refused .number ≡ finalOf r .refused .number
     number = ap (λ (o : Outcome). o .answer .refused .number) exact
 
-    ends : 32 * needOf repeat n ≤ length draws → EndsWith book n repeat draws (runOf book n repeat draws)
-    ends h = of-enough book n repeat draws h (runOf book n repeat draws) (run-spends book n repeat draws (w .two))
+    grouping : (s : State) (ms : List ℕ) (read : ℕ) (rest : List ℕ) → r ≡ done s ms read rest → GroupingOf book n s (groupOf book n n repeat draws l)
+    grouping s ms read rest e =
+        let h : Whole n (done s ms read rest) = subst (Whole n) e (run-whole book n repeat draws (w .two)) in
+        let o : groupOf book n n repeat draws l ≡ ran book n (done s ms read rest) l = exact ∙ ap (λ (q : Run). ran book n q l) e in
+        subst (GroupingOf book n s) (sym o) (ran-grouping book n s ms read rest l (h .0) (h .1))

@@ -17,9 +17,9 @@ use Rattle.candidates.specs.Candidates.{found}
 use Rattle.rounds.specs.Round.{Run, done, ended, needOf, totalOf}
 use Rattle.rounds.proofs.Spends.{Spends}
 use Rattle.onc.specs.Onc.{Lists, Outcome, shape, runOf, finalOf, ran, groupOf}
-use Rattle.onc.specs.Demands.{Cause, no-repeat, not-square, few-rows, many-rows, many-repeats, cell-count, list-length, outputs, roundsOf, AsLong, Counted, Spent, Demand3}
+use Rattle.onc.specs.Demands.{Cause, no-repeat, not-square, few-rows, many-rows, many-repeats, cell-count, list-length, Within, Outputs, outputs, labelsIn, roundsOf, AsLong, Counted, EndsBy, DrawsRead, Demand3}
 use Rattle.onc.proofs.Shapes.{shape-cause, shape-within, shape-same}
-use Rattle.onc.proofs.Calls.{call-ran, by-call}
+use Rattle.onc.proofs.Calls.{call-ran, by-call, within-ran}
 use Rattle.onc.proofs.Groupings.{all, all-length, run-spends, search-same, reached-same, meets-draw, meets-none}
 
 -- no refusal before the run has the number 0 or 7
@@ -37,8 +37,8 @@ not-zero k h e = impossible (sym h ∙ eq-eqb k 0 e)
 
 -- what a run takes of its draws, from its first round on
 module _ (book : List Float) (rows repeat : ℕ) (draws : List ℕ) where
-  of-spends : (r : Run) → Spends book rows repeat 32 (all rows) 0 draws r → Spent book rows repeat draws r
-  of-spends (done s ms read rest) k =
+  ends-by : (r : Run) → Spends book rows repeat 32 (all rows) 0 draws r → EndsBy book rows repeat draws r
+  ends-by (done s ms read rest) k =
       let count : read ≡ totalOf repeat ms = omega (arith, k .place) in (
         count,
         k .remain ∙ ap (λ (i : ℕ). drop i draws) (sym count),
@@ -50,12 +50,25 @@ module _ (book : List Float) (rows repeat : ℕ) (draws : List ℕ) where
         search-same book rows repeat draws (k .before) (k .items) (drawn (found (k .best)) rest) (k .cause),
         k .kept,
       )
-  of-spends (ended Rounds ms) k = (k .count, k .enough, k .items, reached-same book rows repeat draws (k .reached))
-  of-spends (ended (Short p) ms) k =
-      let count : p ≡ totalOf repeat ms = omega (arith, k .place) in
-      (count, omega (arith, count, k .enough), k .items, reached-same book rows repeat draws (k .reached), omega (arith, count, k .short))
-  of-spends (ended (DrawOutOfRange p) ms) k = meets-draw book rows repeat draws p ms k
-  of-spends (ended ClusteringFailed ms) k = meets-none book rows repeat draws ms k
+  ends-by (ended Rounds ms) k = (k .count, k .items, reached-same book rows repeat draws (k .reached))
+  ends-by (ended (Short p) ms) k =
+      let count : p ≡ totalOf repeat ms = omega (arith, k .place) in (count, k .items, reached-same book rows repeat draws (k .reached), omega (arith, count, k .short))
+  ends-by (ended (DrawOutOfRange p) ms) k = meets-draw book rows repeat draws p ms k
+  ends-by (ended ClusteringFailed ms) k = meets-none book rows repeat draws ms k
+
+  few-rounds : (r : Run) → Spends book rows repeat 32 (all rows) 0 draws r → length (roundsOf r) ≤ 32
+  few-rounds (done s ms read rest) k = k .count
+  few-rounds (ended Rounds ms) k = omega (arith, k .count)
+  few-rounds (ended (Short p) ms) k = omega (arith, k .count)
+  few-rounds (ended (DrawOutOfRange p) ms) k = k .count
+  few-rounds (ended ClusteringFailed ms) k = k .count
+
+  draws-there : (r : Run) → Spends book rows repeat 32 (all rows) 0 draws r → totalOf repeat (roundsOf r) ≤ length draws
+  draws-there (done s ms read rest) k = k .enough
+  draws-there (ended Rounds ms) k = k .enough
+  draws-there (ended (Short p) ms) k = k .enough
+  draws-there (ended (DrawOutOfRange p) ms) k = k .enough
+  draws-there (ended ClusteringFailed ms) k = k .enough
 
   -- the place of 7
   of-short : (r : Run) → Spends book rows repeat 32 (all rows) 0 draws r → finalOf r .refused .number ≡ 7 → finalOf r .refused .place ≡ totalOf repeat (roundsOf r)
@@ -91,6 +104,9 @@ module _ (book : List Float) (rows repeat : ℕ) (draws : List ℕ) where
           same = λ draws′ l′ long t.
               let t′ : take (totalOf repeat ms) draws′ ≡ take (totalOf repeat ms) draws = subst (λ (c : ℕ). take c draws′ ≡ take c draws) count t in
               of-same s ms read rest draws′ (drop (totalOf repeat ms) draws′) l′ long e (k .same draws′ t′);
+          same-labels = λ draws′ l′ long t.
+              let t′ : take (totalOf repeat ms) draws′ ≡ take (totalOf repeat ms) draws = subst (λ (c : ℕ). take c draws′ ≡ take c draws) count t in
+              ap (labelsIn rows) (of-same s ms read rest draws′ (drop (totalOf repeat ms) draws′) l′ long e (k .same draws′ t′));
         }
     of-grouped (ended Rounds ms) e k h = let y : ⊥ = omega arith in absurd y
     of-grouped (ended (Short p) ms) e k h = let y : ⊥ = omega arith in absurd y
@@ -106,7 +122,8 @@ third book rows cols repeat draws l =
       short = by-call book rows cols repeat draws l (λ (o : Outcome). o .answer .refused .number ≡ 7 → o .answer .refused .place ≡ totalOf repeat (roundsOf r))
           (λ e. let w = shape-within book rows cols repeat l e .1 in of-short book rows repeat draws r (took (w .two)))
           (λ e h. absurd (not-seven (shape-cause book rows cols repeat l e) h));
-      spent = λ two. of-spends book rows repeat draws r (took two);
+      started = λ square w. ap (λ (o : Outcome). o .answer) (subst (λ (c : ℕ). groupOf book rows c repeat draws l ≡ ran book rows r l) square (within-ran book rows repeat draws l w));
+      reads = λ two. record { rounds = few-rounds book rows repeat draws r (took two); there = draws-there book rows repeat draws r (took two); ends = ends-by book rows repeat draws r (took two) };
     }
   where
     r : Run

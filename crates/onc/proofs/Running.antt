@@ -16,7 +16,7 @@ use Rattle.draws.specs.declared.Stop.{Stop}
 use Rattle.top.specs.declared.Top.{Top}
 use Rattle.top.specs.declared.Top.the-variants.{Done, Stopped as Ended}
 use Rattle.rounds.specs.Round.{Run, done, ended, roundOf}
-use Rattle.top.specs.Steps.{Ready, Rounded, topOf, orderAfter, sizesAfter, scoresAfter}
+use Rattle.top.specs.Steps.{Ready, RoundLeaves, topOf, orderAfter, sizesAfter, scoresAfter}
 use Rattle.rounds.proofs.Runs.{Whole}
 use Rattle.onc_answers.specs.declared.Onc.the-variants.{Grouped, Stopped}
 use Rattle.onc_answers.specs.Answers.{answerOf}
@@ -77,13 +77,13 @@ module _ (book : List Float) (n repeat : ℕ) (draws order sizes : List ℕ) (sc
 
   -- what it leaves
   pub run-ran : {a : Top} {order′ sizes′ : List ℕ} {scores′ floats′ : List Float} {wi′ : List ℕ}
-      → Rounded (roundOf book n repeat 32 (take (length order) (front ++ drop n wi)) 0 (drop 0 draws)) n 32 a order order′ sizes sizes′ scores scores′ (front ++ drop n wi) wi′ floats floats′
+      → RoundLeaves (roundOf book n repeat 32 (take (length order) (front ++ drop n wi)) 0 (drop 0 draws)) n 32 a order order′ sizes sizes′ scores scores′ (front ++ drop n wi) wi′ floats floats′
       → Ran (runOf book n repeat draws) n a order order′ sizes sizes′ scores scores′ floats floats′ wi wi′
   unfolding runOf
   run-ran {a} {order′} {sizes′} {scores′} {floats′} {wi′} h =
-      let g : Rounded (roundOf book n repeat 32 (all n) 0 draws) n 32 a order order′ sizes sizes′ scores scores′ (front ++ drop n wi) wi′ floats floats′ =
+      let g : RoundLeaves (roundOf book n repeat 32 (all n) 0 draws) n 32 a order order′ sizes sizes′ scores scores′ (front ++ drop n wi) wi′ floats floats′ =
       subst
-      (λ (x : List ℕ). Rounded (roundOf book n repeat 32 x 0 draws) n 32 a order order′ sizes sizes′ scores scores′ (front ++ drop n wi) wi′ floats floats′)
+      (λ (x : List ℕ). RoundLeaves (roundOf book n repeat 32 x 0 draws) n 32 a order order′ sizes sizes′ scores scores′ (front ++ drop n wi) wi′ floats floats′)
       rows-are h in
       record {
         answer-is = g .answer-is;

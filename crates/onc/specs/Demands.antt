@@ -11,8 +11,8 @@ use Rattle.refusals.specs.Table.{workDoubles, workNumbers, wiped, wipedNumbers}
 use Rattle.distance.specs.Distance.{distAt}
 use Rattle.draws.specs.Draws.{Drawn, drawn, refused}
 use Rattle.draws.specs.declared.Stop.the-variants.{Rounds, Short, DrawOutOfRange, ClusteringFailed}
-use Rattle.partition.specs.Partition.{Partition, State, has, joined}
-use Rattle.partition.specs.Orders.{cut}
+use Rattle.partition.specs.Partition.{Partition, State, has, groupAt, labelOf, joined}
+use Rattle.partition.specs.Orders.{sizesOf, cut}
 use Rattle.candidates.specs.Candidates.{Candidate, Best, nothing, found, bestOf}
 use Rattle.candidates.specs.Ranges.{RoundOutOfRange}
 use Rattle.candidates.specs.Failed.{NoStats}
@@ -21,10 +21,9 @@ use Rattle.base.specs.Base.{baseOf}
 use Rattle.improve.specs.Improve.{weakItems}
 use Rattle.rounds.specs.Round.{Run, done, ended, needOf, rowsOf, totalOf}
 use Rattle.onc_answers.specs.Answers.{Answer, listsFit, refusing}
-use Rattle.onc.specs.Onc.{Lists, Outcome, runOf, ran, groupOf}
+use Rattle.onc.specs.Onc.{Lists, Outcome, runOf, finalOf, ran, groupOf}
 
--- what a call returns and leaves in its outputs. No list of labels is lent: the label of a name is the number of the group that has it, which
--- follows from the count of groups in the answer, the sizes and the order (`cut`), so outputs that are equal give equal labels
+-- what a call returns and leaves in its outputs
 pub record Outputs : Type 0 where
   pub answer : Answer
   pub order : List ℕ
@@ -34,6 +33,14 @@ pub record Outputs : Type 0 where
 
 abbrev pub outputs : Outcome → Outputs
 outputs o = record { answer = o .answer; order = o .lists .order; sizes = o .lists .sizes; scores = o .lists .scores; ordered = o .lists .ordered }
+
+-- the groups that a call leaves, and the label of each name: the number of the group that has it. No list of labels is lent; they follow from the count of
+-- groups in the answer, the sizes and the order
+abbrev pub groupsIn : Outputs → List (List ℕ)
+groupsIn o = cut (o .answer .groups) (o .sizes) (o .order)
+
+abbrev pub labelsIn : ℕ → Outputs → List ℕ
+labelsIn n o = listed (labelOf (groupsIn o)) n
 
 -- the outputs that were lent, with the answer of the call
 abbrev pub untouched : Outcome → Lists → Outputs
@@ -84,7 +91,7 @@ pub data Cause (book : List Float) (rows cols repeat : ℕ) (l : Lists) : ℕ �
 
 -- Demand 1. A call ends in one of three ways: a grouping; a refusal before the run, for its cause, which keeps every list; or a refusal that the run
 -- meets, which keeps the outputs. A refusal tells no groups and no draws read, and before the run the place 0. A run starts within the limits alone, and
--- once it has started the working lists are wiped, however it ends.
+-- once it has started the working lists are wiped, however it ends. (That the code of a call returns is proved with its contract, as of every function.)
 pub data Demand1 (book : List Float) (rows cols repeat : ℕ) (o : Outcome) (l : Lists) : Type 0 where
   grouping : rows ≡ cols → Within book rows repeat l → o .answer .refused .number ≡ 0 → Wiped rows o l → Demand1 book rows cols repeat o l
   not-started : Cause book rows cols repeat l (o .answer .refused .number) → o .answer ≡ refusing (record { number = o .answer .refused .number; place = 0 }) → o .lists ≡ l
@@ -97,10 +104,13 @@ pub data Demand1 (book : List Float) (rows cols repeat : ℕ) (o : Outcome) (l :
 pub record GroupingOf (book : List Float) (n : ℕ) (s : State) (o : Outcome) : Type 0 where
   pub not-refused : o .answer .refused .number ≡ 0
   pub partition : Partition n (s .groups)
-  pub groups : cut (o .answer .groups) (o .lists .sizes) (o .lists .order) ≡ s .groups
+  pub groups : groupsIn (outputs o) ≡ s .groups
+  pub labels : (g i : ℕ) → has (groupAt (s .groups) g) i ≡ true → numbers (labelsIn n (outputs o)) i ≡ g
   pub numbered : (g : ℕ) → g < o .answer .groups → 0 < numbers (o .lists .sizes) g
   pub no-more : (g : ℕ) → o .answer .groups ≤ g → numbers (o .lists .sizes) g ≡ 0
   pub order : o .lists .order ≡ joined (s .groups)
+  pub order-long : length (o .lists .order) ≡ n
+  pub sizes : o .lists .sizes ≡ sizesOf n (s .groups)
   pub scores : o .lists .scores ≡ s .scores
   pub scores-long : length (s .scores) ≡ n
   pub ordered-long : length (o .lists .ordered) ≡ n * n
@@ -128,26 +138,30 @@ MeetsDraw book n repeat draws p ms =
     × (searchOf book n repeat draws before items ≡ refused p) × RoundOutOfRange (distAt book n items) (length items) repeat (totalOf repeat before) draws p
 
 -- how 3 is met: in the last round that started, which is reached, has two items or more, and takes exactly its count of draws. Its search finds no
--- candidate, since in no repeat and for no number of groups is there one whose t-stat is a number.
+-- candidate, since in no repeat and for no number of groups is there one whose t-stat is above -infinity, which a NaN is not.
 abbrev pub MeetsNone : List Float → ℕ → ℕ → List ℕ → List ℕ → Type 0
 MeetsNone book n repeat draws ms =
     (before : List ℕ) × (items : List ℕ) × Reached book n repeat draws before items × (ms ≡ before ++ (length items ∷ [])) × (2 ≤ length items)
     × (totalOf repeat ms ≤ length draws) × (searchOf book n repeat draws before items ≡ drawn nothing (drop (totalOf repeat before + needOf repeat (length items)) draws))
     × NoStats (distAt book n items) (length items) repeat (totalOf repeat before) (drop (totalOf repeat before) draws)
 
--- how a run with enough draws ends: in a grouping; or by 9, after 32 rounds; by 8, at a draw out of range; or by 3, without a candidate. Not by 7.
-abbrev pub EndsWith : List Float → ℕ → ℕ → List ℕ → Run → Type 0
-EndsWith book n repeat draws (done s ms read rest) = Unit
-EndsWith book n repeat draws (ended Rounds ms) = length ms ≡ 32
-EndsWith book n repeat draws (ended (Short k) ms) = ⊥
-EndsWith book n repeat draws (ended (DrawOutOfRange p) ms) = MeetsDraw book n repeat draws p ms
-EndsWith book n repeat draws (ended ClusteringFailed ms) = MeetsNone book n repeat draws ms
+-- no round that is reached is refused: it is not the 33rd (9), its draws are there (7) and in range (8), and it has a candidate whose t-stat is above
+-- -infinity (3)
+pub record NoneRefused (book : List Float) (n repeat : ℕ) (draws : List ℕ) : Type 0 where
+  pub few : (before items : List ℕ) → Reached book n repeat draws before items → length before < 32
+  pub enough : (before items : List ℕ) → Reached book n repeat draws before items → totalOf repeat before + needOf repeat (length items) ≤ length draws
+  pub in-range : (before items : List ℕ) (p : ℕ) → Reached book n repeat draws before items
+      → RoundOutOfRange (distAt book n items) (length items) repeat (totalOf repeat before) draws p → ⊥
+  pub candidate : (before items : List ℕ) → Reached book n repeat draws before items
+      → NoStats (distAt book n items) (length items) repeat (totalOf repeat before) (drop (totalOf repeat before) draws) → ⊥
 
--- Demand 2. Within the limits a call answers and leaves exactly what the run of the definition gives. A list of 32 times the first round's count is
--- enough draws, and then 7 is not answered. Where the run ends in a partition, so does the call, and nowhere else.
+-- Demand 2. Within the limits a call answers and leaves exactly what the run of the definition gives. With enough draws in range, at most 32 rounds and a
+-- candidate in each it is a grouping. A list of 32 times the first round's count is enough draws: then 7 is not answered. Where the run ends in a
+-- partition, so does the call, and nowhere else.
 pub record Demand2 (book : List Float) (n repeat : ℕ) (draws : List ℕ) (l : Lists) : Type 0 where
   pub exact : groupOf book n n repeat draws l ≡ ran book n (runOf book n repeat draws) l
-  pub enough : 32 * needOf repeat n ≤ length draws → EndsWith book n repeat draws (runOf book n repeat draws)
+  pub answered : NoneRefused book n repeat draws → (s : State) × (ms : List ℕ) × (read : ℕ) × (rest : List ℕ) × (runOf book n repeat draws ≡ done s ms read rest)
+      × GroupingOf book n s (groupOf book n n repeat draws l)
   pub not-short : 32 * needOf repeat n ≤ length draws → has (0 ∷ 9 ∷ 8 ∷ 3 ∷ []) (groupOf book n n repeat draws l .answer .refused .number) ≡ true
   pub grouping : (s : State) (ms : List ℕ) (read : ℕ) (rest : List ℕ) → runOf book n repeat draws ≡ done s ms read rest
       → GroupingOf book n s (groupOf book n n repeat draws l)
@@ -169,29 +183,35 @@ pub record AsLong (l l′ : Lists) : Type 0 where
   pub numbers : length (l′ .numbers) ≡ length (l .numbers)
 
 -- of a call that ends in a grouping and reports `count` draws: they are the sum over the rounds, a losing re-clustering included, at most 32 times the
--- first round's; and every other list of draws that begins with those gives the same answer and the same outputs
+-- first round's; and every other list of draws that begins with those gives the same answer and the same outputs, and so the same labels
 pub record Counted (book : List Float) (rows cols repeat : ℕ) (draws : List ℕ) (l : Lists) (count : ℕ) : Type 0 where
   pub sum : count ≡ totalOf repeat (roundsOf (runOf book rows repeat draws))
   pub most : count ≤ 32 * needOf repeat rows
   pub there : count ≤ length draws
   pub same : (draws′ : List ℕ) (l′ : Lists) → AsLong l l′ → take count draws′ ≡ take count draws
       → outputs (groupOf book rows cols repeat draws′ l′) ≡ outputs (groupOf book rows cols repeat draws l)
+  pub same-labels : (draws′ : List ℕ) (l′ : Lists) → AsLong l l′ → take count draws′ ≡ take count draws
+      → labelsIn rows (outputs (groupOf book rows cols repeat draws′ l′)) ≡ labelsIn rows (outputs (groupOf book rows cols repeat draws l))
 
--- How a run of n names spends its draws, however it ends; the draws of each round that started were there. A grouping comes after a round that is reached
--- and finds a candidate with two weak groups or fewer. 9 and 7 are met by a round that is reached and does not start: 9 after 32 rounds, 7 where fewer
--- draws remain than the round needs, and 7 gives the sum over the rounds that started. 8 is met at a draw out of range, and at no other, and 3 where
--- no candidate has a t-stat that is a number.
-abbrev pub Spent : List Float → ℕ → ℕ → List ℕ → Run → Type 0
-Spent book n repeat draws (done s ms read rest) =
+-- What a run of n names reads of its draws, however it ends. At most 32 rounds start, and their draws were there. A grouping comes after a round that is
+-- reached and finds a candidate with two weak groups or fewer. 9 and 7 are met by a round that is reached and does not start: 9 after 32 rounds, 7 where
+-- fewer draws remain than the round needs, and 7 gives the sum over the rounds that started. 8 is met at a draw out of range, and at no other, and 3
+-- where no candidate has a t-stat above -infinity.
+abbrev pub EndsBy : List Float → ℕ → ℕ → List ℕ → Run → Type 0
+EndsBy book n repeat draws (done s ms read rest) =
     (read ≡ totalOf repeat ms) × (rest ≡ drop read draws)
     × (before : List ℕ) × (items : List ℕ) × (c : Candidate) × Reached book n repeat draws before items × (ms ≡ before ++ (length items ∷ []))
     × (searchOf book n repeat draws before items ≡ drawn (found c) rest) × (weakCount (qualitiesOf (c .scores) (baseOf (length items) c .groups)) ≤ 2)
-Spent book n repeat draws (ended Rounds ms) =
-    (length ms ≡ 32) × (totalOf repeat ms ≤ length draws) × (items : List ℕ) × Reached book n repeat draws ms items
-Spent book n repeat draws (ended (Short k) ms) =
-    (k ≡ totalOf repeat ms) × (k ≤ length draws) × (items : List ℕ) × Reached book n repeat draws ms items × (length draws < k + needOf repeat (length items))
-Spent book n repeat draws (ended (DrawOutOfRange p) ms) = MeetsDraw book n repeat draws p ms
-Spent book n repeat draws (ended ClusteringFailed ms) = MeetsNone book n repeat draws ms
+EndsBy book n repeat draws (ended Rounds ms) = (length ms ≡ 32) × (items : List ℕ) × Reached book n repeat draws ms items
+EndsBy book n repeat draws (ended (Short k) ms) =
+    (k ≡ totalOf repeat ms) × (items : List ℕ) × Reached book n repeat draws ms items × (length draws < k + needOf repeat (length items))
+EndsBy book n repeat draws (ended (DrawOutOfRange p) ms) = MeetsDraw book n repeat draws p ms
+EndsBy book n repeat draws (ended ClusteringFailed ms) = MeetsNone book n repeat draws ms
+
+pub record DrawsRead (book : List Float) (n repeat : ℕ) (draws : List ℕ) (r : Run) : Type 0 where
+  pub rounds : length (roundsOf r) ≤ 32
+  pub there : totalOf repeat (roundsOf r) ≤ length draws
+  pub ends : EndsBy book n repeat draws r
 
 -- Demand 3: how many draws a call reads, and that no others matter.
 pub record Demand3 (book : List Float) (rows cols repeat : ℕ) (draws : List ℕ) (l : Lists) : Type 0 where
@@ -199,7 +219,8 @@ pub record Demand3 (book : List Float) (rows cols repeat : ℕ) (draws : List �
       → Counted book rows cols repeat draws l (groupOf book rows cols repeat draws l .answer .read)
   pub short : groupOf book rows cols repeat draws l .answer .refused .number ≡ 7
       → groupOf book rows cols repeat draws l .answer .refused .place ≡ totalOf repeat (roundsOf (runOf book rows repeat draws))
-  pub spent : 2 ≤ rows → Spent book rows repeat draws (runOf book rows repeat draws)
+  pub started : rows ≡ cols → Within book rows repeat l → groupOf book rows cols repeat draws l .answer ≡ finalOf (runOf book rows repeat draws)
+  pub reads : 2 ≤ rows → DrawsRead book rows repeat draws (runOf book rows repeat draws)
 
 -- the three demands, of every call
 pub record Demands : Type 0 where

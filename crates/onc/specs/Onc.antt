@@ -1,4 +1,5 @@
--- The grouping of a book: what a call answers, and what it leaves in every list that it was lent. Definitions only.
+-- The grouping of a book: what a call answers, and what it leaves in every list that it was lent. A book is a matrix of the correlations of n names, row
+-- by row. Definitions only.
 use Prim.Native.Nat.{ℕ}
 use mathlib.Core.Bool.{cond}
 use mathlib.Core.List.{List}

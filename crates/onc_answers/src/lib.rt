@@ -87,7 +87,7 @@ pub fn read_of(a: Onc) -> usize
     }
 }
 
-// Whether the outputs have their lengths and the working lists have room; asked of at most 256 names.
+// Whether the outputs have their lengths and the working lists have room. Of more than 256 names nothing is promised: those are refused by 4.
 pub fn lists_fit(
     n: usize,
     order: usize,
@@ -117,7 +117,7 @@ pub fn lists_fit(
     refusals::has_numbers(numbers, n)
 }
 
-// The first row that keeps every list, or a grouping of no groups where none applies.
+// The first row that keeps every list; where none applies the answer has the number 0, of a grouping that is not made yet.
 pub fn check(repeat: usize, rows: usize, cols: usize, cells: usize, fits: bool) -> Onc
     ensures { λ r. ⌜ answerOf r ≡ refusing (shapeOf repeat rows cols cells fits) ⌝ }
 {

@@ -18,7 +18,7 @@ use Rattle.quality.specs.Quality.{qualitiesOf, weakMean}
 use Rattle.choice.specs.Choice.{chosen}
 use Rattle.choice.proofs.Laws.{chosen-ap, chosen-same}
 use Rattle.improve.specs.Improve.{weakItems, mergedOf, rescored, meanQuality, betterOf}
-use Rattle.improve.specs.Steps.{stateOf, Weakened, Improvable, Improves}
+use Rattle.improve.specs.Steps.{stateOf, WeakListed, Improvable, Improves}
 use Rattle.round_end.specs.Steps.{InnerEnded, RoundEnded}
 
 -- the list that the choice hands back
@@ -76,8 +76,8 @@ module _ (book : List Float) (n left count inner w : ℕ) (order sizes : List �
     pub weak-asked : Sized (length os) count (part n k wi) (part (2 * n) j wi)
     weak-asked = rw (ek, ej, eo, end-round-scores) (U .improvable .base .sized)
 
-    module _ (gw iw : ℕ) (mean : Float) (list list′ : List ℕ) (W′ : Weakened (stateOf count (part (2 * n) j wi) (part n k wi) os) gw iw mean list list′) where
-      W : Weakened old-state gw iw mean list list′
+    module _ (gw iw : ℕ) (mean : Float) (list list′ : List ℕ) (W′ : WeakListed (stateOf count (part (2 * n) j wi) (part n k wi) os) gw iw mean list list′) where
+      W : WeakListed old-state gw iw mean list list′
       W = rw (ek, ej, eo) at W′
 
       items-are : take w list′ ≡ weakItems old-state

@@ -14,7 +14,7 @@ use Rattle.partition.proofs.Cuts.{cut-order}
 use Rattle.quality.specs.Quality.{qualitiesOf, weak}
 use Rattle.quality.proofs.Splits.{picked-below, picked-fewer}
 use Rattle.improve.specs.Improve.{weakItems}
-use Rattle.improve.specs.Steps.{stateOf, Weakened}
+use Rattle.improve.specs.Steps.{stateOf, WeakListed}
 use Rattle.rounds.specs.Round.{rowsOf}
 use Rattle.rounds.specs.Steps.{Room, Stored, StoresRows, RowsStored, WeakFound}
 
@@ -86,7 +86,7 @@ module _ (m count : ℕ) (order sizes : List ℕ) (scores : List Float) (S : Siz
       (λ i h. let l : i < m = omega (arith, h, ap length whole, S .items) in rw whole (S .below i l))
 
 -- the weak items at the front of the list that they were put in
-module _ (s : State) (g w : ℕ) (mean : Float) (list list′ : List ℕ) (W : Weakened s g w mean list list′) where
+module _ (s : State) (g w : ℕ) (mean : Float) (list list′ : List ℕ) (W : WeakListed s g w mean list list′) where
   pub front-items : take w list′ ≡ weakItems s
   front-items = ap (take w) (W .listed-are) ∙ take-at (weakItems s) (drop (length (weakItems s)) list) w (sym (W .items-are))
 

@@ -1,7 +1,7 @@
 -- What the functions of the start of a round ask and leave. Definitions only.
--- A round with `left` rounds left works in its tails of the run's two lists. Numbers: its rows, its base's order, its base's sizes, n places
--- each, then the tail of the round below. Doubles: its base's scores, n places, then the tail of the round below; the areas stand behind the
--- scores of all rounds, at left * n.
+-- A round with `left` rounds left works in the rest of the run's two working lists, behind what the rounds before it keep: wi has whole numbers, wf
+-- doubles. Numbers: its rows, its base's order, its base's sizes, n places each, then what the inner round works in. Doubles: its base's scores, n
+-- places, then what the inner round works in; the areas stand behind the scores of all rounds, at left * n.
 use Prim.Native.Nat.{ℕ, _+_, _*_, _<_, _≤_}
 use mathlib.Core.Path.{_≡_}
 use mathlib.Core.List.{List}
@@ -17,14 +17,14 @@ use Rattle.rounds.specs.declared.RoundStart.the-variants as roundStart
 use Rattle.rounds.specs.Round.{Opening, started, unstarted, rowsOf, needOf}
 
 -- the book, the rows of the round's m items at the front of its numbers, and the draws
-pub record Book (book : List Float) (n m repeats : ℕ) (draws : List ℕ) (read : ℕ) (wi : List ℕ) : Type 0 where
+pub record RoundInput (book : List Float) (n m repeats : ℕ) (draws : List ℕ) (read : ℕ) (wi : List ℕ) : Type 0 where
   pub two : 2 ≤ m
   pub items : m ≤ n
   pub few : n ≤ 256
   pub some : 1 ≤ repeats
   pub times : repeats ≤ 64
   pub square : length book ≡ n * n
-  pub told : read ≤ length draws
+  pub read-there : read ≤ length draws
   pub rows : (j : ℕ) → j < m → numbers wi j < n
 
 -- the base of a round stands in its numbers and doubles
@@ -38,7 +38,7 @@ abbrev pub roundStartOf : ℕ → Opening → RoundStart
 roundStartOf read (started s rest) = roundStart.Base (length (s .groups)) (weakCount (qualitiesOf (s .scores) (s .groups))) (length (weakItems s)) read
 roundStartOf read (unstarted s ms) = roundStart.Stopped s
 
--- what it leaves: the rows, the base, and the rows of the weak items at the front of the round below
+-- what it leaves: the rows, the base, and the rows of the weak items at the front of the inner round's numbers
 abbrev pub Starts : Opening → ℕ → ℕ → List ℕ → List ℕ → List Float → Type 0
 Starts (started s rest) n m rows wi wf =
     (take m wi ≡ rows) × BaseAt n m s wi wf × (part (3 * n) (length (weakItems s)) wi ≡ rowsOf rows (weakItems s))
@@ -89,7 +89,7 @@ pub record WeakFound (n m : ℕ) (s : State) (groups items : ℕ) (wi wi′ : Li
 
 -- a book whose round may start: there are draws enough
 pub record MayStart (book : List Float) (n m repeats : ℕ) (draws : List ℕ) (read left : ℕ) (wi : List ℕ) (wf : List Float) : Type 0 where
-  pub reads : Book book n m repeats draws read wi
+  pub reads : RoundInput book n m repeats draws read wi
   pub enough : read + needOf repeats m ≤ length draws
   pub one : 1 ≤ left
   pub level : left ≤ 32

@@ -5,7 +5,7 @@ ghost use lib.ListN.{length, take, drop};
 ghost use Rattle.partition.specs.Orders.{Sized};
 ghost use Rattle.improve.specs.Steps.{stateOf};
 ghost use Rattle.rounds.specs.Round.{openingOf, needOf};
-ghost use Rattle.rounds.specs.Steps.{Book, RoundStarted, MayStart, Room, Stored, StoresRows, WeakFound, RowsStored};
+ghost use Rattle.rounds.specs.Steps.{RoundInput, RoundStarted, MayStart, Room, Stored, StoresRows, WeakFound, RowsStored};
 use base::Based;
 use draws::Stop;
 use improve::Weak;
@@ -37,7 +37,7 @@ fn store_base(
     lists::copy(scores, &mut wf[..m]);
 }
 
-// The rows of the items, as rows of the book, at the front of the numbers of the round below; `rows` is a list to work in.
+// The rows of the items, as rows of the book, at the front of the inner round's numbers; `rows` is a list to work in.
 fn store_rows(n: usize, m: usize, items: &[usize], rows: &mut [usize], wi: &mut [usize])
     requires { ⌜ StoresRows n m (now items) (now wi) × (length (now rows) ≡ length (now items)) ⌝ }
     ensures { λ _. ⌜ RowsStored n m (now (items .entry)) (now (wi .entry)) (now (wi .exit)) ⌝ }
@@ -48,7 +48,7 @@ fn store_rows(n: usize, m: usize, items: &[usize], rows: &mut [usize], wi: &mut 
     lists::copy_numbers(rows, &mut wi[from..end]);
 }
 
-// The weak items of the base, and their rows at the front of the numbers of the round below; `items` and `rows` are lists to work in.
+// The weak items of the base, and their rows at the front of the inner round's numbers; `items` and `rows` are lists to work in.
 fn find_weak_with(
     n: usize,
     count: usize,
@@ -150,7 +150,7 @@ pub fn start_round(
     wi: &mut [usize],
     wf: &mut [f64],
 ) -> RoundStart
-    requires { ⌜ Book (now book) n m repeat (now draws) read (now wi) × (1 ≤ left) × (left ≤ 32) × (4 * n ≤ length (now wi)) × (left * n + 5 * (n * n) ≤ length (now wf)) ⌝ }
+    requires { ⌜ RoundInput (now book) n m repeat (now draws) read (now wi) × (1 ≤ left) × (left ≤ 32) × (4 * n ≤ length (now wi)) × (left * n + 5 * (n * n) ≤ length (now wf)) ⌝ }
     ensures { λ r. ⌜ RoundStarted (openingOf (now (book .entry)) n repeat (take m (now (wi .entry))) read (drop read (now (draws .entry)))) n m left
         (read + needOf repeat m) r (now (wi .entry)) (now (wi .exit)) (now (wf .entry)) (now (wf .exit)) ⌝ }
 {

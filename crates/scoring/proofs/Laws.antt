@@ -19,7 +19,7 @@ use Rattle.scores.proofs.Least.{score-same, score-labels}
 use Rattle.pairs.specs.Pairs.{pairsArea}
 use Rattle.lloyd.proofs.Rows.{points-kept, held-kept}
 use Rattle.clustering.proofs.Laws.{pairs-points, pairs-held, fourth-is}
-use Rattle.scoring.specs.Scoring.{scoresOf, Round}
+use Rattle.scoring.specs.Scoring.{scoresOf, Prepared}
 
 -- items whose columns agree below m, under labels that agree below m, are scored alike
 pub scores-same : (x y : ℕ → ℕ → Float) (m : ℕ) (f g : ℕ → ℕ) → ((i c : ℕ) → i < m → c < m → x i c ≡ y i c) → ((i : ℕ) → i < m → f i ≡ g i) → scoresOf x m f ≡ scoresOf y m g
@@ -36,7 +36,7 @@ unfolding scoresOf
 scores-length x m label = length-listed (λ i. silhouette (pairAt x m i) label m i) m
 
 -- the fourth area, as the code lends it: it is its own mirror, so its rows read as columns
-module _ {area : List Float} {m : ℕ} (r : Round area m) (n : ℕ) (e : n ≡ m * m) where
+module _ {area : List Float} {m : ℕ} (r : Prepared area m) (n : ℕ) (e : n ≡ m * m) where
   pub fourth-length : length (part (3 * (m * m)) n area) ≡ m * m
   fourth-length = rw e (part-length (3 * (m * m)) (m * m) area (omega (arith, r .held .size)))
 
@@ -54,7 +54,7 @@ module _ {area : List Float} {m : ℕ} (r : Round area m) (n : ℕ) (e : n ≡ m
       (λ j b. in-grid (pairAt (pointsAt area m) m) m j i nan is b h ∙ pair-flip (pointsAt area m) m j i))
 
 -- the four areas that `book_pairs` leaves, and a fifth, are those of a round
-pub round-areas : (x : ℕ → ℕ → Float) (m : ℕ) (back : List Float) → 0 < m → m ≤ 256 → length back ≡ m * m → Round (pairsArea x m ++ back) m
+pub round-areas : (x : ℕ → ℕ → Float) (m : ℕ) (back : List Float) → 0 < m → m ≤ 256 → length back ≡ m * m → Prepared (pairsArea x m ++ back) m
 round-areas x m back some few l =
     record {
       held = pairs-held x m back some few l;
@@ -73,7 +73,7 @@ module _ (x : ℕ → ℕ → Float) (m : ℕ) (area : List Float) {front : List
   pub book-points : (i c : ℕ) → i < m → c < m → pointsAt (front ++ drop (4 * (m * m)) area) m i c ≡ x i c
   book-points i c a b = rw e (round-points x m (drop (4 * (m * m)) area) i c a b)
 
-  pub book-round : 0 < m → m ≤ 256 → length area ≡ 5 * (m * m) → Round (front ++ drop (4 * (m * m)) area) m
+  pub book-round : 0 < m → m ≤ 256 → length area ≡ 5 * (m * m) → Prepared (front ++ drop (4 * (m * m)) area) m
   book-round some few size =
       let back : length (drop (4 * (m * m)) area) ≡ m * m = simp length-drop (omega (arith, size)) in
       rw e (round-areas x m (drop (4 * (m * m)) area) some few back)
@@ -83,7 +83,7 @@ module _ (m : ℕ) (a d : List Float) (e : take (4 * (m * m)) a ≡ take (4 * (m
   pub points-stay : pointsAt a m ≡ pointsAt d m
   points-stay = ap (λ (p : List Float). cellAt p m) (points-kept m a d e)
 
-  pub round-kept : length a ≡ length d → Round d m → Round a m
+  pub round-kept : length a ≡ length d → Prepared d m → Prepared a m
   round-kept l r =
       record {
         held = held-kept m a d l e (r .held);

@@ -14,6 +14,6 @@ unfoldable pub scoresOf : (ℕ → ℕ → Float) → ℕ → (ℕ → ℕ) → 
 scoresOf x m label = listed (λ i. silhouette (pairAt x m i) label m i) m
 
 -- the areas of a round, as k-means asks for them, with the pair distances in the fourth
-pub record Round (area : List Float) (m : ℕ) : Type 0 where
+pub record Prepared (area : List Float) (m : ℕ) : Type 0 where
   pub held : Held area m
   pub pairs : part (3 * (m * m)) (m * m) area ≡ grid (pairAt (pointsAt area m) m) m

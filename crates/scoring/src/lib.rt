@@ -5,11 +5,11 @@ ghost use Prim.Native.Nat.{ℕ, _≤_, _<_, _*_};
 ghost use lib.ListN.{length};
 ghost use Rattle.lists.specs.Lists.{numbers};
 ghost use Rattle.columns.specs.Columns.{pointsAt};
-ghost use Rattle.scoring.specs.Scoring.{scoresOf, Round};
+ghost use Rattle.scoring.specs.Scoring.{scoresOf, Prepared};
 
 // The score of each item, where the labels are below k.
 pub fn scores_in(area: &[f64], m: usize, labels: &[usize], k: usize, scores: &mut [f64])
-    requires { ⌜ Round (now area) m × (length (now labels) ≡ m) × (length (now scores) ≡ m) × (k ≤ m) × ((i : ℕ) → i < m → numbers (now labels) i < k) ⌝ }
+    requires { ⌜ Prepared (now area) m × (length (now labels) ≡ m) × (length (now scores) ≡ m) × (k ≤ m) × ((i : ℕ) → i < m → numbers (now labels) i < k) ⌝ }
     ensures { λ _. ⌜ now (scores .exit) ≡ scoresOf (pointsAt (now (area .entry)) m) m (numbers (now (labels .entry))) ⌝ }
 {
     let mut sums = lists::row_buffer();

@@ -24,7 +24,7 @@ use Rattle.rounds.specs.declared.RoundStart.the-variants as roundStart
 use Rattle.rounds.specs.Round.{Run, done, ended, Opening, started, unstarted, openingOf, roundOf, needOf, rowsOf, afterInner}
 use Rattle.rounds.specs.Steps.{RoundStarted, Starts, BaseAt, roundStartOf}
 use Rattle.round_end.specs.Steps.{InnerEnded, RoundEnded}
-use Rattle.top.specs.Steps.{Ready, Rounded, topOf, orderAfter, sizesAfter, scoresAfter}
+use Rattle.top.specs.Steps.{Ready, RoundLeaves, topOf, orderAfter, sizesAfter, scoresAfter}
 use Rattle.rounds.proofs.Runs.{weakIn, OpeningTook, opening-took, Whole, whole, round-none, round-refused, round-kept, round-again}
 use Rattle.rounds.proofs.Standing.{stands-state, stands-cut, stands-parted, stands-plain}
 
@@ -65,7 +65,7 @@ module _ (book : List Float) (n repeats : ℕ) (draws : List ℕ) (read left : �
   abbrev last-double : ℕ
   last-double = left * n + 5 * (n * n)
 
-  pub none-law : left ≡ 0 → Rounded run n left (Stopped Rounds) order order sizes sizes scores scores wi wi wf wf
+  pub none-law : left ≡ 0 → RoundLeaves run n left (Stopped Rounds) order order sizes sizes scores scores wi wi wf wf
   none-law e =
       rw (round-none book n repeats left rows read (drop read draws) e)
       (record { answer-is = refl; ordered = refl; sized = refl; scored = refl; behind = refl; beyond = refl })
@@ -89,7 +89,7 @@ module _ (book : List Float) (n repeats : ℕ) (draws : List ℕ) (read left : �
       behind-number = drop-behind (4 * n) last-number wi₁ wi (omega (arith, size)) (B .behind)
 
       of-refused : (o : Opening) (s : Stop) → O ≡ o → roundStart.Stopped s ≡ roundStartOf (read + needOf repeats m) o
-          → Rounded run n left (Stopped s) order order sizes sizes scores scores wi wi₁ wf wf₁
+          → RoundLeaves run n left (Stopped s) order order sizes sizes scores scores wi wi₁ wf wf₁
       of-refused (started base rest) s e a = let z : _≡_ {A = ℕ} 0 1 = cc in absurd (omega arith)
       of-refused (unstarted q ms) s e a =
           let z : q ≡ s = cc in
@@ -99,7 +99,7 @@ module _ (book : List Float) (n repeats : ℕ) (draws : List ℕ) (read left : �
           ∙ ap (λ (x : Stop). ended x ms) z in
           rw r (record { answer-is = refl; ordered = refl; sized = refl; scored = refl; behind = behind-number; beyond = B .beyond })
 
-      pub refused-law : (s : Stop) → a₁ ≡ roundStart.Stopped s → Rounded run n left (Stopped s) order order sizes sizes scores scores wi wi₁ wf wf₁
+      pub refused-law : (s : Stop) → a₁ ≡ roundStart.Stopped s → RoundLeaves run n left (Stopped s) order order sizes sizes scores scores wi wi₁ wf wf₁
       refused-law s e = of-refused O s refl (sym e ∙ B .answer-is)
 
       -- what is known of a round that has started: its base of `groups` groups, `weak` of them weak, with w items, and a draws read
@@ -136,7 +136,7 @@ module _ (book : List Float) (n repeats : ℕ) (draws : List ℕ) (read left : �
             items-are = ew;
             told = ea;
             rest-is = t .2 ∙ drop-drop (needOf repeats m) read draws ∙ ap (λ (x : ℕ). drop x draws) (sym ea);
-            enough = omega (arith, t .3, length-drop read draws, R .reads .told, ea);
+            enough = omega (arith, t .3, length-drop read draws, R .reads .read-there, ea);
             rows-kept = s .0;
             base-at = s .1;
             rows-at = ap (λ (x : ℕ). part (3 * n) x wi₁) ew ∙ s .2;
@@ -150,7 +150,7 @@ module _ (book : List Float) (n repeats : ℕ) (draws : List ℕ) (read left : �
 
       module _ (groups weak w a : ℕ) (S : Started groups weak w a) where
         pub kept-law : (order′ sizes′ : List ℕ) (scores′ : List Float) → weak ≤ 2 → order′ ≡ part n m wi₁ → sizes′ ≡ part (2 * n) m wi₁ → scores′ ≡ take m wf₁
-            → Rounded run n left (Done groups a) order order′ sizes sizes′ scores scores′ wi wi₁ wf wf₁
+            → RoundLeaves run n left (Done groups a) order order′ sizes sizes′ scores scores′ wi wi₁ wf wf₁
         kept-law order′ sizes′ scores′ h eo ez es =
             let b = S .base in
             let less : weakIn (S .base) ≤ 2 = omega (arith, h, S .weak-is) in
@@ -258,7 +258,7 @@ module _ (book : List Float) (n repeats : ℕ) (draws : List ℕ) (read left : �
 
           -- the inner round has come back
           module _ (b : Top) (lo lz : List ℕ) (ls : List Float) (wi₃ : List ℕ) (wf₃ : List Float)
-              (I : Rounded inner n (left - 1) b (take w order) lo (take w sizes) lz (take w scores) ls wi₂ wi₃ wf₂ wf₃)
+              (I : RoundLeaves inner n (left - 1) b (take w order) lo (take w sizes) lz (take w scores) ls wi₂ wi₃ wf₂ wf₃)
               (len-order : length lo ≡ length (take w order)) (len-sizes : length lz ≡ length (take w sizes)) (len-scores : length ls ≡ length (take w scores))
               (len-numbers : length wi₃ ≡ length wi₂) (len-doubles : length wf₃ ≡ length wf₂) where
             abbrev wi₄ : List ℕ
@@ -290,7 +290,7 @@ module _ (book : List Float) (n repeats : ℕ) (draws : List ℕ) (read left : �
 
             of-stopped : (r : Run) (s : Stop) → inner ≡ r → b ≡ Stopped s → b ≡ topOf r → lo ≡ orderAfter r (take w order)
                 → lz ≡ sizesAfter (length (take w order)) r (take w sizes) → ls ≡ scoresAfter r (take w scores)
-                → Rounded run n left (Stopped s) order order₂ sizes sizes₂ scores scores₂ wi wi₄ wf wf₄
+                → RoundLeaves run n left (Stopped s) order order₂ sizes sizes₂ scores scores₂ wi wi₄ wf wf₄
             of-stopped (done h ms last rest) s e eb ea eo ez es = let z : _≡_ {A = ℕ} 0 1 = cc in absurd (omega arith)
             of-stopped (ended q ms) s e eb ea eo ez es =
                 let z : q ≡ s = cc in
@@ -304,7 +304,7 @@ module _ (book : List Float) (n repeats : ℕ) (draws : List ℕ) (read left : �
                   beyond = back-double;
                 })
 
-            pub stopped-law : (s : Stop) → b ≡ Stopped s → Rounded run n left (Stopped s) order order₂ sizes sizes₂ scores scores₂ wi wi₄ wf wf₄
+            pub stopped-law : (s : Stop) → b ≡ Stopped s → RoundLeaves run n left (Stopped s) order order₂ sizes sizes₂ scores scores₂ wi wi₄ wf wf₄
             stopped-law s eb = of-stopped inner s refl eb (I .answer-is) (I .ordered) (I .sized) (I .scored)
 
             -- the base stands where it stood
@@ -419,7 +419,7 @@ module _ (book : List Float) (n repeats : ℕ) (draws : List ℕ) (read left : �
                   ∙ ap (λ (x : List (List ℕ)). betterOf (distAt book n rows) m (S .base) x) (N .groups-are)
 
               pub done-law : (r : ℕ) (order′ sizes′ : List ℕ) (scores′ wf₅ : List Float) → RoundEnded better n left r (length order₂) order′ sizes′ scores′ wf₄ wf₅
-                  → Rounded run n left (Done r last) order order′ sizes sizes′ scores scores′ wi wi₄ wf wf₅
+                  → RoundLeaves run n left (Done r last) order order′ sizes sizes′ scores scores′ wi wi₄ wf wf₅
               done-law r order′ sizes′ scores′ wf₅ T =
                   let e : run ≡ done (betterOf (distAt book n rows) m (S .base) (N .state .groups)) (m ∷ N .ms) last (N .left-over) = run-is ∙ ap after (N .ended-as) in
                   rw e (record {

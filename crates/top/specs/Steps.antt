@@ -7,7 +7,7 @@ use lib.Ieee.{Float}
 use Rattle.partition.specs.Partition.{joined}
 use Rattle.partition.specs.Orders.{sizesOf}
 use Rattle.rounds.specs.Round.{Run, done, ended}
-use Rattle.rounds.specs.Steps.{Book}
+use Rattle.rounds.specs.Steps.{RoundInput}
 use Rattle.top.specs.declared.Top.{Top}
 use Rattle.top.specs.declared.Top.the-variants.{Done, Stopped}
 
@@ -30,7 +30,7 @@ scoresAfter (ended s ms) old = old
 
 -- what a round asks
 pub record Ready (book : List Float) (n repeats : ℕ) (draws : List ℕ) (read left : ℕ) (order sizes : List ℕ) (scores : List Float) (wi : List ℕ) (wf : List Float) : Type 0 where
-  pub reads : Book book n (length order) repeats draws read wi
+  pub reads : RoundInput book n (length order) repeats draws read wi
   pub level : left ≤ 32
   pub same-sizes : length sizes ≡ length order
   pub same-scores : length scores ≡ length order
@@ -38,7 +38,7 @@ pub record Ready (book : List Float) (n repeats : ℕ) (draws : List ℕ) (read 
   pub space : left * n + 5 * (n * n) ≤ length wf
 
 -- what it leaves
-pub record Rounded (r : Run) (n left : ℕ) (a : Top) (order order′ sizes sizes′ : List ℕ) (scores scores′ : List Float) (wi wi′ : List ℕ) (wf wf′ : List Float) : Type 0 where
+pub record RoundLeaves (r : Run) (n left : ℕ) (a : Top) (order order′ sizes sizes′ : List ℕ) (scores scores′ : List Float) (wi wi′ : List ℕ) (wf wf′ : List Float) : Type 0 where
   pub answer-is : a ≡ topOf r
   pub ordered : order′ ≡ orderAfter r order
   pub sized : sizes′ ≡ sizesAfter (length order) r sizes

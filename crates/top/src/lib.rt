@@ -6,7 +6,7 @@ ghost use lib.ListN.{length, take, drop};
 ghost use Rattle.lists.specs.Lists.{part};
 ghost use Rattle.rounds.specs.Round.{roundOf};
 ghost use Rattle.rounds.specs.Steps.{Room};
-ghost use Rattle.top.specs.Steps.{Ready, Rounded};
+ghost use Rattle.top.specs.Steps.{Ready, RoundLeaves};
 use draws::Stop;
 use rounds::RoundStart;
 
@@ -39,7 +39,8 @@ fn keep(
 }
 
 // A round with `left` rounds left, on the rows at the front of `wi`. Its answer goes to `order`, `sizes` and `scores`, which have a place for each of
-// its items; a run that is refused leaves them as they were. The fronts of `wi` and `wf` are left with anything.
+// its items; a run that is refused leaves them as they were. The working lists, `wi` of numbers and `wf` of doubles, hold anything afterwards at their
+// fronts, and what they held behind.
 pub fn cluster_kmeans_top(
     book: &[f64],
     n: usize,
@@ -54,7 +55,7 @@ pub fn cluster_kmeans_top(
     wf: &mut [f64],
 ) -> Top
     requires { ⌜ Ready (now book) n repeat (now draws) read left (now order) (now sizes) (now scores) (now wi) (now wf) ⌝ }
-    ensures { λ r. ⌜ Rounded (roundOf (now (book .entry)) n repeat left (take (length (now (order .entry))) (now (wi .entry))) read (drop read (now (draws .entry)))) n left r
+    ensures { λ r. ⌜ RoundLeaves (roundOf (now (book .entry)) n repeat left (take (length (now (order .entry))) (now (wi .entry))) read (drop read (now (draws .entry)))) n left r
         (now (order .entry)) (now (order .exit)) (now (sizes .entry)) (now (sizes .exit)) (now (scores .entry)) (now (scores .exit))
         (now (wi .entry)) (now (wi .exit)) (now (wf .entry)) (now (wf .exit)) ⌝ }
 {

@@ -68,7 +68,7 @@ start-with-requires c κs =
     let b : length (take (c .before .before .before .before .before .before .before .before .before .before .before .before .before .before .args .m) (c .before .before .before .before .before .before .number-buffer2 .result)) ≡ c .before .before .before .before .before .before .before .before .before .before .before .before .before .before .args .m = length-take-le (c .before .before .before .before .before .before .before .before .before .before .before .before .before .before .args .m) (c .before .before .before .before .before .before .number-buffer2 .result) (omega (arith, few, c .before .before .before .before .before .before .number-buffer2 .ensures)) in
     let d : length (take (c .before .before .before .before .before .before .before .before .before .before .before .before .before .before .args .m) (c .before .before .before .before .before .row-buffer .result)) ≡ c .before .before .before .before .before .before .before .before .before .before .before .before .before .before .args .m = length-take-le (c .before .before .before .before .before .before .before .before .before .before .before .before .before .before .args .m) (c .before .before .before .before .before .row-buffer .result) (omega (arith, few, c .before .before .before .before .before .row-buffer .ensures)) in
     let full : c .before .before .before .before .before .before .before .before .before .before .before .before .before .before .args .repeat * countOf (c .before .before .before .before .before .before .before .before .before .before .before .before .before .before .args .m) ≤ length (c .before .before .before .before .before .before .before .before .before .before .before .before .before .before .args .draws .now) - c .before .before .before .before .before .before .before .before .before .before .before .before .before .before .args .read = rw (c .before .before .before .before .before .before .before .before .before .draws-for .ensures) at (c .before .before .before .before .before .before .before .before .if1 .left) in
-    (rw a (record { reads = c .before .before .before .before .before .before .before .before .before .before .before .before .before .before .pre .0; enough = omega (arith, full, c .before .before .before .before .before .before .before .before .before .before .before .before .before .before .pre .0 .told); one = c .before .before .before .before .before .before .before .before .before .before .before .before .before .before .pre .1; level = c .before .before .before .before .before .before .before .before .before .before .before .before .before .before .pre .2; room = c .before .before .before .before .before .before .before .before .before .before .before .before .before .before .pre .3; space = c .before .before .before .before .before .before .before .before .before .before .before .before .before .before .pre .4 }), b ∙ sym a, d ∙ sym a)
+    (rw a (record { reads = c .before .before .before .before .before .before .before .before .before .before .before .before .before .before .pre .0; enough = omega (arith, full, c .before .before .before .before .before .before .before .before .before .before .before .before .before .before .pre .0 .read-there); one = c .before .before .before .before .before .before .before .before .before .before .before .before .before .before .pre .1; level = c .before .before .before .before .before .before .before .before .before .before .before .before .before .before .pre .2; room = c .before .before .before .before .before .before .before .before .before .before .before .before .before .before .pre .3; space = c .before .before .before .before .before .before .before .before .before .before .before .before .before .before .pre .4 }), b ∙ sym a, d ∙ sym a)
 
 same-length : tie.Need-same-length
 same-length c = search needs
