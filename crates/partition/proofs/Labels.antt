@@ -3,17 +3,22 @@ use Prim.Native.Nat.{ℕ, zero, suc, _+_, _<_, _≤_}
 use mathlib.Core.Path.{_≡_, refl, sym, _∙_, ap}
 use mathlib.Core.Bool.{Bool, true, false, cond}
 use mathlib.Core.List.{List, [], _∷_, _++_}
+use mathlib.Core.Logic.{⊎-elim, by-cases}
 use native.Mathlib.Omega.{arith}
+use native.Mathlib.Nat.{eq-or-lt-of-le}
 use native.Mathlib.Numerals.{add-one}
+use native.Mathlib.Decide.{decLt}
 use borrow.Author.Tests.{eq-eqb, ne-eqb}
 use lib.ListN.{length, take, set, replicate}
 use lib.Seq.{take-suc, take-all}
 use Rattle.lists.specs.Lists.{numbers, listed}
 use Rattle.lists.specs.Sums.{foldIf}
-use Rattle.lists.proofs.Tests.{or-true, or-false}
+use Rattle.lists.proofs.Tests.{impossible, or-true, or-false}
 use Rattle.lists.proofs.Listed.{getD-listed, listed-set, listed-same, listed-const, listed-cells}
-use Rattle.partition.specs.Partition.{joined, groupAt, has, labelOf, Partition}
-use Rattle.partition.proofs.Members.{has-append, joined-none}
+use Rattle.partition.specs.Partition.{joined, groupAt, has, labelOf, times, Partition}
+use Rattle.partition.specs.Orders.{totalTo}
+use Rattle.partition.proofs.Totals.{total-two}
+use Rattle.partition.proofs.Members.{joined-none, count-joined, has-append, has-times, has-below, times-append, times-none, below-group}
 use Rattle.partition.proofs.Cuts.{partition-length}
 
 -- the item that was put last is in the list, and any other is where it was before
@@ -95,3 +100,42 @@ label-below (g ∷ gs) i h = let z : labelTo (g ∷ gs) (suc (length gs)) i ≤ 
 -- the labels of a partition are numbers of groups
 pub labels-below : {m : ℕ} {gs : List (List ℕ)} → Partition m gs → 0 < m → (i : ℕ) → i < m → labelOf gs i < length gs
 labels-below {m} {gs} p h i l = label-below gs i (omega (arith, partition-length p))
+
+-- the members of a partition's groups are its items
+pub member-below : {m : ℕ} {gs : List (List ℕ)} → Partition m gs → (g i : ℕ) → has (groupAt gs g) i ≡ true → i < m
+member-below {m} {gs} p g i h = has-below m (groupAt gs g) (below-group m gs (p .below) g) i h
+
+-- a group that has a member is one of the groups
+group-inside : (gs : List (List ℕ)) (g i : ℕ) → has (groupAt gs g) i ≡ true → g < length gs
+unfolding has
+group-inside [] g i h = impossible h
+group-inside (x ∷ gs) zero i h = omega arith
+group-inside (x ∷ gs) (suc g) i h = let l : g < length gs = group-inside gs g i h in omega arith
+
+-- an item is in one group only
+not-later : {m : ℕ} {gs : List (List ℕ)} → Partition m gs → (g k i : ℕ) → g < k → has (groupAt gs g) i ≡ true → has (groupAt gs k) i ≡ true → ⊥
+not-later {m} {gs} p g k i l a b =
+    let all : times i (joined gs) ≡ totalTo (λ n. times i (groupAt gs n)) (length gs) = count-joined (times i) (times-none i) (times-append i) gs in
+    let two = total-two (λ n. times i (groupAt gs n)) (length gs) g k l (group-inside gs k i b) in
+    omega (arith, p .once i (member-below p g i a), two, has-times (groupAt gs g) i a, has-times (groupAt gs k) i b)
+
+same-group : {m : ℕ} {gs : List (List ℕ)} → Partition m gs → (g k i : ℕ) → has (groupAt gs g) i ≡ true → has (groupAt gs k) i ≡ true → g ≡ k
+same-group p g k i a b =
+    by-cases (decLt g k)
+    (λ l. absurd (not-later p g k i l a b))
+    (λ l. by-cases (decLt k g) (λ q. absurd (not-later p k g i q b a)) (λ q. omega arith))
+
+-- the last place that passes, where no other does
+last-is : (p : ℕ → Bool) (n g : ℕ) → g < n → p g ≡ true → ((k : ℕ) → p k ≡ true → k ≡ g) → foldIf p (λ l k. k) 0 n ≡ g
+unfolding foldIf
+last-is p zero g l h only = absurd (omega arith)
+last-is p (suc n) g l h only = by-test (p n) refl (λ q. last-is p n g q h only)
+  where
+    by-test : (t : Bool) → p n ≡ t → (g < n → foldIf p (λ l k. k) 0 n ≡ g) → cond t n (foldIf p (λ l k. k) 0 n) ≡ g
+    by-test true e before = only n e
+    by-test false e before = ⊎-elim (λ q. impossible (sym e ∙ ap p (sym q) ∙ h)) before (eq-or-lt-of-le {n = g} {m = n} (omega arith))
+
+-- the label of an item is the number of the group that has it
+pub label-is : {m : ℕ} {gs : List (List ℕ)} → Partition m gs → (g i : ℕ) → has (groupAt gs g) i ≡ true → labelOf gs i ≡ g
+unfolding labelOf
+label-is {m} {gs} p g i h = last-is (λ k. has (groupAt gs k) i) (length gs) g (group-inside gs g i h) h (λ k e. same-group p k g i e h)

@@ -4,10 +4,11 @@ use mathlib.Core.Path.{_≡_, refl, sym, _∙_, ap}
 use mathlib.Core.Bool.{Bool, true, false, cond, _||_}
 use mathlib.Core.List.{List, [], _∷_, _++_, append-nil, append-assoc}
 use native.Mathlib.Omega.{arith}
-use borrow.Author.Tests.{eq-eqb, ne-eqb}
+use borrow.Author.Tests.{eq-eqb, ne-eqb, eqb-true}
 use lib.Dec.{eqb}
 use lib.ListN.{length, length-append}
 use Rattle.lists.specs.Lists.{numbers}
+use Rattle.lists.proofs.Tests.{impossible}
 use Rattle.partition.specs.Partition.{joined, groupAt, has, times}
 use Rattle.partition.specs.Orders.{totalTo}
 use Rattle.partition.proofs.Totals.{total-first, total-zero, total-one-more}
@@ -79,6 +80,25 @@ pub times-none : (i : ℕ) → times i [] ≡ 0
 unfolding times
 times-none i = refl
 
+-- an item is in a list where it stands there at least once
+pub has-times : (xs : List ℕ) (i : ℕ) → has xs i ≡ true → 0 < times i xs
+unfolding has times
+has-times [] i h = impossible h
+has-times (x ∷ xs) i h = by-test (eqb x i) h (has-times xs i)
+  where
+    by-test : (t : Bool) → t || has xs i ≡ true → (has xs i ≡ true → 0 < times i xs) → 0 < cond t (suc (times i xs)) (times i xs)
+    by-test true e later = omega arith
+    by-test false e later = later e
+
+pub times-has : (xs : List ℕ) (i : ℕ) → 0 < times i xs → has xs i ≡ true
+unfolding has times
+times-has [] i h = absurd (omega (arith, h))
+times-has (x ∷ xs) i h = by-test (eqb x i) h (times-has xs i)
+  where
+    by-test : (t : Bool) → 0 < cond t (suc (times i xs)) (times i xs) → (0 < times i xs → has xs i ≡ true) → t || has xs i ≡ true
+    by-test true e later = refl
+    by-test false e later = later e
+
 -- every item of the list is below m
 abbrev pub Below : ℕ → List ℕ → Type 0
 Below m xs = (j : ℕ) → j < length xs → numbers xs j < m
@@ -107,6 +127,16 @@ below-left m (x ∷ xs) ys b = below-cons m x xs (below-head m x (xs ++ ys) b) (
 pub below-right : (m : ℕ) (xs ys : List ℕ) → Below m (xs ++ ys) → Below m ys
 below-right m [] ys b = b
 below-right m (x ∷ xs) ys b = below-right m xs ys (below-tail m x (xs ++ ys) b)
+
+-- an item that is in the list is below m
+pub has-below : (m : ℕ) (xs : List ℕ) → Below m xs → (i : ℕ) → has xs i ≡ true → i < m
+unfolding has
+has-below m [] b i h = impossible h
+has-below m (x ∷ xs) b i h = by-test (eqb x i) refl h (has-below m xs (below-tail m x xs b) i)
+  where
+    by-test : (t : Bool) → eqb x i ≡ t → t || has xs i ≡ true → (has xs i ≡ true → i < m) → i < m
+    by-test true e q later = omega (arith, eqb-true x i e, below-head m x xs b)
+    by-test false e q later = later q
 
 -- the groups of a list of items below m
 pub below-group : (m : ℕ) (gs : List (List ℕ)) → Below m (joined gs) → (g : ℕ) → Below m (groupAt gs g)

@@ -38,6 +38,11 @@ total-le f k zero h = let z : k ≡ 0 = omega arith in rw z (omega arith)
 total-le f k (suc n) h =
     ⊎-elim (λ q. rw q (omega arith)) (λ q. let r : k ≤ n = omega arith in omega (arith, total-le f k n r)) (eq-or-lt-of-le {n = k} {m = suc n} h)
 
+-- two terms are no more than the sum
+pub total-two : (f : ℕ → ℕ) (n g k : ℕ) → g < k → k < n → f g + f k ≤ totalTo f n
+total-two f n g k h l =
+    omega (arith, total-more f g, total-le f (g + 1) k (omega arith), total-more f k, total-le f (k + 1) n (omega arith))
+
 -- terms of at most 1
 pub total-ones : (f : ℕ → ℕ) (n : ℕ) → ((k : ℕ) → k < n → f k ≤ 1) → totalTo f n ≤ n
 unfolding totalTo
