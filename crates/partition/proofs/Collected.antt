@@ -9,7 +9,7 @@ use native.Mathlib.Nat.{eq-or-lt-of-le}
 use lib.ListN.{length, getD, length-append, List·getD-append}
 use lib.Seq.{getD-at}
 use Rattle.lists.specs.Sums.{foldIf, countIf}
-use Rattle.lists.proofs.Sums.{count-le}
+use Rattle.lists.proofs.Sums.{count-le, fold-in}
 
 cond-more : (b : Bool) (n : ℕ) → n ≤ cond b (n + 1) n
 cond-more true n = omega arith
@@ -45,6 +45,26 @@ module _ {A : Type 0} where
 
   pub collect-more : (p : ℕ → Bool) (f : ℕ → A) (i n : ℕ) → i ≤ n → length (collect p f i) ≤ length (collect p f n)
   collect-more p f i n h = omega (arith, collect-length p f i, collect-length p f n, count-more p i n h)
+
+  -- a place that passes adds one
+  pub collect-less : (p : ℕ → Bool) (f : ℕ → A) (i n : ℕ) → i < n → p i ≡ true → length (collect p f i) < length (collect p f n)
+  collect-less p f i n h t =
+      let one : length (collect p f (i + 1)) ≡ length (collect p f i) + 1 = ap length (fold-in p (λ out k. out ++ (f k ∷ [])) [] i t) ∙ length-append (collect p f i) (f i ∷ []) in
+      omega (arith, collect-more p f (i + 1) n (omega arith))
+
+  cond-at : (z : A) (b : Bool) (xs : List A) (x : A) (j : ℕ) → j < length xs → getD (cond b (xs ++ (x ∷ [])) xs) j z ≡ getD xs j z
+  cond-at z true xs x j l = List·getD-append xs (x ∷ []) z j l
+  cond-at z false xs x j l = refl
+
+  -- its value stands behind those of the places before it
+  pub collect-at : (z : A) (p : ℕ → Bool) (f : ℕ → A) (n i : ℕ) → i < n → p i ≡ true → getD (collect p f n) (length (collect p f i)) z ≡ f i
+  unfolding foldIf
+  collect-at z p f zero i h t = absurd (omega arith)
+  collect-at z p f (suc n) i h t =
+      ⊎-elim
+      (λ q. rw (← q, t) (getD-at (collect p f i) (f i) [] z (length (collect p f i)) refl))
+      (λ q. cond-at z (p n) (collect p f n) (f n) (length (collect p f i)) (collect-less p f i n q t) ∙ collect-at z p f n i q t)
+      (eq-or-lt-of-le {n = i} {m = n} (omega arith))
 
   -- an element of a list with one more behind it
   pub snoc-each : (P : A → Type 0) (z : A) (xs : List A) (x : A) → ((j : ℕ) → j < length xs → P (getD xs j z)) → P x

@@ -14,7 +14,7 @@ use lib.ListN.{length, length-append}
 use Rattle.lists.specs.Sums.{foldIf}
 use Rattle.lists.proofs.Sums.{fold-in, fold-out}
 use Rattle.partition.specs.Partition.{joined, groupAt, members, occupied, groupsOf, times, Partition}
-use Rattle.partition.proofs.Collected.{collect-few, collect-more, collect-each}
+use Rattle.partition.proofs.Collected.{collect-few, collect-less, collect-each}
 use Rattle.partition.proofs.Totals.{total-ones}
 use Rattle.partition.proofs.Members.{joined-one, joined-none, times-append, times-one, times-other, times-none, Below, below-none, below-append, times-total}
 
@@ -31,10 +31,7 @@ members-none label l = refl
 
 -- there is room for one more member where all of them fit
 pub members-room : (label : ℕ → ℕ) (i m l : ℕ) → i < m → label i ≡ l → length (members label i l) < length (members label m l)
-members-room label i m l h e =
-    let one : length (members label (i + 1) l) ≡ length (members label i l) + 1 = ap length (members-in label i l e) ∙ length-append (members label i l) (i ∷ []) in
-    let more : length (members label (i + 1) l) ≤ length (members label m l) = collect-more (λ k. eqb (label k) l) (λ k. k) (i + 1) m (omega arith) in
-    omega arith
+members-room label i m l h e = collect-less (λ k. eqb (label k) l) (λ k. k) i m h (eq-eqb (label i) l e)
 
 -- the members of a group are below m
 members-below : (label : ℕ → ℕ) (m l : ℕ) → Below m (members label m l)
@@ -67,7 +64,7 @@ times-else label (suc n) l i h =
     (λ e. times-out label n l i e ∙ before)
 
 -- each item is once in the group of its label
-times-own : (label : ℕ → ℕ) (n i : ℕ) → i < n → times i (members label n (label i)) ≡ 1
+pub times-own : (label : ℕ → ℕ) (n i : ℕ) → i < n → times i (members label n (label i)) ≡ 1
 times-own label zero i h = absurd (omega arith)
 times-own label (suc n) i h =
     ⊎-elim

@@ -5,5 +5,6 @@ pub mod Members
 pub mod Groups
 pub mod Cuts
 pub mod Labels
+pub mod Ranks
 pub mod Filling
 pub mod Moved
