@@ -1,7 +1,7 @@
 -- Labels numbered anew, from 0 in their order without those that are not used: the scores stay.
 use Prim.Native.Nat.{ℕ, zero, suc, _+_, _<_, _≤_}
 use mathlib.Core.Path.{_≡_, refl, sym, _∙_, ap}
-use mathlib.Core.Bool.{Bool, true, false, cond, not, _&&_, _||_}
+use mathlib.Core.Bool.{Bool, true, false, cond, not, _&&_}
 use mathlib.Core.Logic.{⊎-elim, by-cases}
 use native.Mathlib.Numerals.{add-one}
 use native.Mathlib.Nat.{eq-or-lt-of-le}
@@ -9,8 +9,8 @@ use native.Mathlib.Omega.{arith}
 use native.Mathlib.Decide.{ℕ-discrete, decLt}
 use borrow.Author.Tests.{eq-eqb, ne-eqb}
 use lib.Dec.{eqb}
-use lib.Ieee.{Float, add, div, binary64}
-use Rattle.lists.specs.Sums.{zero64, counted, foldIf, countIf, lesser}
+use lib.Ieee.{Float, add, binary64}
+use Rattle.lists.specs.Sums.{zero64, foldIf, countIf}
 use Rattle.lists.proofs.Sums.{fold-same, fold-none, count-le}
 use Rattle.lists.proofs.Tests.{impossible, or-true}
 use Rattle.scores.specs.Scores.{member, groupSum, groupCount, least, scoreFrom, silhouette}

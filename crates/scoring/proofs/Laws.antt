@@ -1,11 +1,13 @@
 -- Laws of the scores of a round: what they depend on, and that the fourth area gives them; and of the areas that a round asks for.
 use Prim.Native.Nat.{ℕ, _*_, _<_, _≤_}
 use mathlib.Core.Path.{_≡_, sym, _∙_, ap}
+use mathlib.Core.Bool.{Bool, true}
 use mathlib.Core.List.{List, _++_}
 use native.Mathlib.Omega.{arith}
 use lib.ListN.{length, take, drop, length-drop}
 use lib.Ieee.{Float, nan}
 use Rattle.lists.specs.Lists.{numbers, part, grid, cellAt}
+use Rattle.lists.specs.Sums.{countIf}
 use Rattle.lists.proofs.Listed.{listed-same, length-listed}
 use Rattle.lists.proofs.Grid.{in-grid, grid-same}
 use Rattle.lists.proofs.Parts.{part-front, part-length}
@@ -16,6 +18,7 @@ use Rattle.columns.proofs.Flip.{pair-flip}
 use Rattle.scores.specs.Scores.{silhouette}
 use Rattle.scores.specs.Groups.{distance, Shape, scoresAcross}
 use Rattle.scores.proofs.Least.{score-same, score-labels}
+use Rattle.scores.proofs.Renumbered.{score-renumbered}
 use Rattle.pairs.specs.Pairs.{pairsArea}
 use Rattle.lloyd.proofs.Rows.{points-kept, held-kept}
 use Rattle.clustering.proofs.Laws.{pairs-points, pairs-held, fourth-is}
@@ -29,6 +32,14 @@ scores-same x y m f g agree labels =
     (λ i q.
     score-same (pairAt x m i) (pairAt y m i) f m i (λ j b. pair-same x y m i j agree q b)
     ∙ score-labels (pairAt y m i) f g m i q labels)
+
+-- labels f numbered anew by g, from 0 in their order without those that are not used, score the items alike
+pub scores-ranked : (x : ℕ → ℕ → Float) (m : ℕ) (f g : ℕ → ℕ) (used : ℕ → Bool) → ((i : ℕ) → i < m → f i < m) → ((i : ℕ) → i < m → used (f i) ≡ true)
+    → ((i : ℕ) → i < m → g i ≡ countIf used (f i)) → scoresOf x m g ≡ scoresOf x m f
+unfolding scoresOf
+scores-ranked x m f g used below of-items ranks =
+    listed-same nan (λ i. silhouette (pairAt x m i) g m i) (λ i. silhouette (pairAt x m i) f m i) m
+    (λ i q. score-renumbered (pairAt x m i) f g used m below of-items ranks i q)
 
 -- a score for each item
 pub scores-length : (x : ℕ → ℕ → Float) (m : ℕ) (label : ℕ → ℕ) → length (scoresOf x m label) ≡ m
