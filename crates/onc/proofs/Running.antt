@@ -62,7 +62,7 @@ module _ (book : List Float) (n repeat : ℕ) (draws order sizes : List ℕ) (sc
           some = fair .some;
           times = fair .times;
           square = fair .square;
-          told = omega arith;
+          read-there = omega arith;
           rows = row-below;
         };
         level = omega arith;

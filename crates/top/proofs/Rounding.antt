@@ -220,7 +220,7 @@ module _ (book : List Float) (n repeats : ℕ) (draws : List ℕ) (read left : �
                   some = R .reads .some;
                   times = R .reads .times;
                   square = R .reads .square;
-                  told = S .enough;
+                  read-there = S .enough;
                   rows = λ j h. row-below j (omega (arith, h, in-len));
                 };
                 level = omega (arith, R .level);
