@@ -7,7 +7,7 @@ use native.Mathlib.Omega.{arith}
 use borrow.Author.Tests.{le-leb, lt-leb, leb-false}
 use lib.Dec.{ltb, leb}
 use lib.ListN.{length, drop, length-map}
-use lib.Ieee.{Float}
+use lib.Ieee.{Float, lt}
 use Rattle.lists.specs.Lists.{numbers}
 use Rattle.draws.specs.Draws.{Drawn, drawn, refused}
 use Rattle.draws.specs.declared.Stop.{Stop}
@@ -15,14 +15,15 @@ use Rattle.draws.specs.declared.Stop.the-variants.{Rounds, Short}
 use Rattle.draws.proofs.Taken.{Ends}
 use Rattle.distance.specs.Distance.{distAt}
 use Rattle.partition.specs.Partition.{Partition, State}
-use Rattle.quality.specs.Quality.{qualitiesOf, weakCount}
+use Rattle.quality.specs.Quality.{qualitiesOf, weakCount, weakMean}
 use Rattle.candidates.specs.Candidates.{Candidate, Best, nothing, found, bestOf}
 use Rattle.base.specs.Base.{baseOf}
-use Rattle.improve.specs.Improve.{weakItems}
+use Rattle.improve.specs.Improve.{weakItems, mergedOf, rescored, meanQuality, betterOf}
 use Rattle.rounds.specs.Round.{Run, done, ended, Opening, started, unstarted, ofBest, openingOf, afterOpening, roundOf, needOf, rowsOf, afterInner}
 use Rattle.scoring.proofs.Laws.{scores-length}
 use Rattle.partition.proofs.Groups.{groups-partition}
 use Rattle.candidates.proofs.Laws.{best-took, Found}
+use Rattle.base.proofs.Scored.{Scored, base-scored}
 use Rattle.improve.proofs.Merged.{weak-many, better-partition, better-scores}
 
 -- how many groups of a base are weak
@@ -50,6 +51,36 @@ module _ (book : List Float) (n repeats left : ℕ) (rows : List ℕ) (read : �
     unfolding roundOf afterOpening
     round-again h = rw (e, lt-leb (weakIn base) 2 h)
 
+-- a round that starts took exactly its count of the draws, and P holds of its base
+abbrev OpeningHas : (State → Type 0) → ℕ → List ℕ → Opening → Type 0
+OpeningHas P c ds (started base rest) = P base × (rest ≡ drop c ds) × (c ≤ length ds)
+OpeningHas P c ds (unstarted s ms) = Unit
+
+-- what holds of the base of each candidate holds of the base of a round that starts
+opening-has : (book : List Float) (n repeats : ℕ) (rows : List ℕ) (read : ℕ) (ds : List ℕ) → 2 ≤ length rows
+    → (P : State → Type 0) → ((k : Candidate) → Found (distAt book n rows) (length rows) (found k) → P (baseOf (length rows) k))
+    → OpeningHas P (needOf repeats (length rows)) ds (openingOf book n repeats rows read ds)
+unfolding openingOf
+opening-has book n repeats rows read ds some P each = by-test (ltb (length ds) c)
+  where
+    x : ℕ → ℕ → Float
+    x = distAt book n rows
+
+    m : ℕ
+    m = length rows
+
+    c : ℕ
+    c = needOf repeats (length rows)
+
+    of-best : (D : Drawn Best) → Ends (λ b rest. Found x m b × (rest ≡ drop c ds) × (c ≤ length ds)) (λ p. (read ≤ p) × (p < read + c)) D → OpeningHas P c ds (ofBest m D)
+    of-best (drawn nothing rest) h = tt
+    of-best (drawn (found k) rest) h = (each k (h .0), h .1, h .2)
+    of-best (refused p) h = tt
+
+    by-test : (t : Bool) → OpeningHas P c ds (cond t (unstarted (Short read) []) (ofBest m (bestOf x m repeats read ds)))
+    by-test true = tt
+    by-test false = of-best (bestOf x m repeats read ds) (best-took x m repeats some read ds)
+
 -- a round that starts took exactly its count of the draws; its base is a partition of its items, with a score for each
 abbrev pub OpeningTook : ℕ → List ℕ → ℕ → Opening → Type 0
 OpeningTook c ds m (started base rest) = Partition m (base .groups) × (length (base .scores) ≡ m) × (rest ≡ drop c ds) × (c ≤ length ds)
@@ -62,26 +93,15 @@ base-whole x m c h =
 
 pub opening-took : (book : List Float) (n repeats : ℕ) (rows : List ℕ) (read : ℕ) (ds : List ℕ) → 2 ≤ length rows
     → OpeningTook (needOf repeats (length rows)) ds (length rows) (openingOf book n repeats rows read ds)
-unfolding openingOf
-opening-took book n repeats rows read ds some = by-test (ltb (length ds) c)
+opening-took book n repeats rows read ds some =
+    of-opening (openingOf book n repeats rows read ds) (opening-has book n repeats rows read ds some Base (base-whole (distAt book n rows) (length rows)))
   where
-    x : ℕ → ℕ → Float
-    x = distAt book n rows
+    Base : State → Type 0
+    Base s = Partition (length rows) (s .groups) × (length (s .scores) ≡ length rows)
 
-    m : ℕ
-    m = length rows
-
-    c : ℕ
-    c = needOf repeats (length rows)
-
-    of-best : (D : Drawn Best) → Ends (λ b rest. Found x m b × (rest ≡ drop c ds) × (c ≤ length ds)) (λ p. (read ≤ p) × (p < read + c)) D → OpeningTook c ds m (ofBest m D)
-    of-best (drawn nothing rest) h = tt
-    of-best (drawn (found k) rest) h = let b = base-whole x m k (h .0) in (b .0, b .1, h .1, h .2)
-    of-best (refused p) h = tt
-
-    by-test : (t : Bool) → OpeningTook c ds m (cond t (unstarted (Short read) []) (ofBest m (bestOf x m repeats read ds)))
-    by-test true = tt
-    by-test false = of-best (bestOf x m repeats read ds) (best-took x m repeats some read ds)
+    of-opening : (o : Opening) → OpeningHas Base (needOf repeats (length rows)) ds o → OpeningTook (needOf repeats (length rows)) ds (length rows) o
+    of-opening (started base rest) h = (h .0 .0, h .0 .1, h .1, h .2)
+    of-opening (unstarted s ms) h = tt
 
 -- a run that ends in groups ends in a partition of the first round's m items, with a score for each
 abbrev pub Whole : ℕ → Run → Type 0
@@ -126,3 +146,46 @@ whole book n repeats (suc left) rows read ds some =
 pub done-whole : (book : List Float) (n repeats left : ℕ) (rows : List ℕ) (read : ℕ) (ds : List ℕ) (s : State) (ms : List ℕ) (last : ℕ) (rest : List ℕ) → 2 ≤ length rows
     → roundOf book n repeats left rows read ds ≡ done s ms last rest → Partition (length rows) (s .groups) × (length (s .scores) ≡ length rows)
 done-whole book n repeats left rows read ds s ms last rest some e = subst (Whole (length rows)) e (whole book n repeats left rows read ds some)
+
+-- a run that ends in groups has the silhouettes of the first round's items, under the labels of these groups, as scores
+abbrev pub ScoredRun : (ℕ → ℕ → Float) → ℕ → Run → Type 0
+ScoredRun x m (done s ms read rest) = Scored x m s
+ScoredRun x m (ended s ms) = Unit
+
+-- the partition that is chosen
+better-scored : (x : ℕ → ℕ → Float) (m : ℕ) (s : State) (inner : List (List ℕ)) → Scored x m s → Scored x m (betterOf x m s inner)
+better-scored x m s inner h = by-test (lt (weakMean (qualitiesOf (s .scores) (s .groups))) (meanQuality (rescored x m (mergedOf s inner))))
+  where
+    by-test : (t : Bool) → Scored x m (cond t (rescored x m (mergedOf s inner)) s)
+    by-test true = refl
+    by-test false = h
+
+after-scored : (again : List ℕ → ℕ → List ℕ → Run) (book : List Float) (n : ℕ) (rows : List ℕ) (read c : ℕ) (ds : List ℕ) (o : Opening) → OpeningHas (Scored (distAt book n rows) (length rows)) c ds o
+    → ScoredRun (distAt book n rows) (length rows) (afterOpening again book n rows read o)
+unfolding afterOpening
+after-scored again book n rows read c ds (unstarted s ms) h = tt
+after-scored again book n rows read c ds (started base rest) h = by-test (leb (weakIn base) 2)
+  where
+    by-inner : (r : Run) → ScoredRun (distAt book n rows) (length rows) (afterInner (distAt book n rows) (length rows) base r)
+    by-inner (done s ms last rest) = better-scored (distAt book n rows) (length rows) base (s .groups) (h .0)
+    by-inner (ended s ms) = tt
+
+    by-test : (t : Bool)
+        → ScoredRun (distAt book n rows) (length rows)
+        (cond t (done base (length rows ∷ []) read rest) (afterInner (distAt book n rows) (length rows) base (again (rowsOf rows (weakItems base)) read rest)))
+    by-test true = h .0
+    by-test false = by-inner (again (rowsOf rows (weakItems base)) read rest)
+
+pub scored : (book : List Float) (n repeats left : ℕ) (rows : List ℕ) (read : ℕ) (ds : List ℕ) → 2 ≤ length rows
+    → ScoredRun (distAt book n rows) (length rows) (roundOf book n repeats left rows read ds)
+unfolding roundOf
+scored book n repeats zero rows read ds some = tt
+scored book n repeats (suc left) rows read ds some =
+    after-scored (roundOf book n repeats left) book n rows (read + needOf repeats (length rows)) (needOf repeats (length rows)) ds (openingOf book n repeats rows read ds)
+    (opening-has book n repeats rows read ds some (Scored (distAt book n rows) (length rows)) (base-scored (distAt book n rows) (length rows)))
+
+-- where a round's result is known
+pub done-scored : (book : List Float) (n repeats left : ℕ) (rows : List ℕ) (read : ℕ) (ds : List ℕ) (s : State) (ms : List ℕ) (last : ℕ) (rest : List ℕ) → 2 ≤ length rows
+    → roundOf book n repeats left rows read ds ≡ done s ms last rest → Scored (distAt book n rows) (length rows) s
+done-scored book n repeats left rows read ds s ms last rest some e =
+    subst (ScoredRun (distAt book n rows) (length rows)) e (scored book n repeats left rows read ds some)
