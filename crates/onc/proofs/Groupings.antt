@@ -27,7 +27,8 @@ use Rattle.candidates.proofs.Failed.{best-none}
 use Rattle.rounds.specs.Round.{Run, done, ended, roundOf, needOf, totalOf}
 use Rattle.partition.proofs.Cuts.{cut-joined, groups-few, partition-length}
 use Rattle.partition.proofs.Labels.{label-is, member-below}
-use Rattle.rounds.proofs.Runs.{Whole, whole}
+use Rattle.base.proofs.Scored.{Scored}
+use Rattle.rounds.proofs.Runs.{Whole, whole, ScoredRun, scored}
 use Rattle.rounds.proofs.Spends.{ReachedFrom, start, further, BadDraw, NoCandidate, Spends, spends, searchOf as searchFrom, draws-none, draws-more, draws-one}
 use Rattle.onc.specs.Onc.{Lists, Outcome, runOf, finalOf, ran, groupOf}
 use Rattle.onc.specs.Demands.{Within, outputs, groupsIn, labelsIn, GroupingOf, searchOf, Reached, first, next, MeetsDraw, MeetsNone, NoneRefused, Demand2}
@@ -64,9 +65,9 @@ label-at book n s ms read rest l p g i h =
     ∙ label-is p g i h
 
 -- a run that ends in a partition leaves it in the outputs
-ran-grouping : (book : List Float) (n : ℕ) (s : State) (ms : List ℕ) (read : ℕ) (rest : List ℕ) (l : Lists) → Partition n (s .groups) → length (s .scores) ≡ n
+ran-grouping : (book : List Float) (n : ℕ) (s : State) (ms : List ℕ) (read : ℕ) (rest : List ℕ) (l : Lists) → Partition n (s .groups) → Scored (distAt book n (all n)) n s
     → GroupingOf book n s (ran book n (done s ms read rest) l)
-ran-grouping book n s ms read rest l p long =
+ran-grouping book n s ms read rest l p scores =
     let few : length (s .groups) ≤ n = groups-few p in
     record {
       not-refused = refl;
@@ -78,8 +79,7 @@ ran-grouping book n s ms read rest l p long =
       order = refl;
       order-long = partition-length p;
       sizes = refl;
-      scores = refl;
-      scores-long = long;
+      scores = scores;
       ordered-long = length-listed (flat (through book n (joined (s .groups))) n) (n * n);
       matrix = ordered-at book n (joined (s .groups));
     }
@@ -94,6 +94,13 @@ pub run-whole : (book : List Float) (n repeat : ℕ) (draws : List ℕ) → 2 �
 unfolding runOf
 run-whole book n repeat draws two =
     subst (λ (m : ℕ). Whole m (roundOf book n repeat 32 (all n) 0 draws)) (all-length n) (whole book n repeat 32 (all n) 0 draws (omega (arith, all-length n)))
+
+-- with their scores
+pub run-scored : (book : List Float) (n repeat : ℕ) (draws : List ℕ) → 2 ≤ n → ScoredRun (distAt book n (all n)) n (runOf book n repeat draws)
+unfolding runOf
+run-scored book n repeat draws two =
+    subst (λ (m : ℕ). ScoredRun (distAt book n (all n)) m (roundOf book n repeat 32 (all n) 0 draws)) (all-length n)
+    (scored book n repeat 32 (all n) 0 draws (omega (arith, all-length n)))
 
 -- the draws of rounds one after the other
 pub draws-append : (repeat : ℕ) (before : List ℕ) (m : ℕ) → totalOf repeat (before ++ (m ∷ [])) ≡ totalOf repeat before + needOf repeat m
@@ -221,5 +228,6 @@ second book n repeat draws l w =
     grouping : (s : State) (ms : List ℕ) (read : ℕ) (rest : List ℕ) → r ≡ done s ms read rest → GroupingOf book n s (groupOf book n n repeat draws l)
     grouping s ms read rest e =
         let h : Whole n (done s ms read rest) = subst (Whole n) e (run-whole book n repeat draws (w .two)) in
+        let k : ScoredRun (distAt book n (all n)) n (done s ms read rest) = subst (ScoredRun (distAt book n (all n)) n) e (run-scored book n repeat draws (w .two)) in
         let o : groupOf book n n repeat draws l ≡ ran book n (done s ms read rest) l = exact ∙ ap (λ (q : Run). ran book n q l) e in
-        subst (GroupingOf book n s) (sym o) (ran-grouping book n s ms read rest l (h .0) (h .1))
+        subst (GroupingOf book n s) (sym o) (ran-grouping book n s ms read rest l (h .0) k)

@@ -9,6 +9,7 @@ use lib.Ieee.{Float}
 use Rattle.lists.specs.Lists.{listed, numbers, cellAt}
 use Rattle.refusals.specs.Table.{workDoubles, workNumbers, wiped, wipedNumbers}
 use Rattle.distance.specs.Distance.{distAt}
+use Rattle.scoring.specs.Scoring.{scoresOf}
 use Rattle.draws.specs.Draws.{Drawn, drawn, refused}
 use Rattle.draws.specs.declared.Stop.the-variants.{Rounds, Short, DrawOutOfRange, ClusteringFailed}
 use Rattle.partition.specs.Partition.{Partition, State, has, groupAt, labelOf, joined}
@@ -100,7 +101,8 @@ pub data Demand1 (book : List Float) (rows cols repeat : ℕ) (o : Outcome) (l :
       → outputs o ≡ untouched o l → Wiped rows o l → Demand1 book rows cols repeat o l
 
 -- the answer and the outputs are those of the definition's partition s: a name belongs to one group and to no other, each number below the count of groups is
--- that of a group with a member, and the ordered matrix has the book's rows and columns group by group
+-- that of a group with a member, the scores are the silhouettes of the names under their labels, and the ordered matrix has the book's rows and columns
+-- group by group
 pub record GroupingOf (book : List Float) (n : ℕ) (s : State) (o : Outcome) : Type 0 where
   pub not-refused : o .answer .refused .number ≡ 0
   pub partition : Partition n (s .groups)
@@ -111,8 +113,7 @@ pub record GroupingOf (book : List Float) (n : ℕ) (s : State) (o : Outcome) : 
   pub order : o .lists .order ≡ joined (s .groups)
   pub order-long : length (o .lists .order) ≡ n
   pub sizes : o .lists .sizes ≡ sizesOf n (s .groups)
-  pub scores : o .lists .scores ≡ s .scores
-  pub scores-long : length (s .scores) ≡ n
+  pub scores : o .lists .scores ≡ scoresOf (distAt book n (listed (λ i. i) n)) n (labelOf (s .groups))
   pub ordered-long : length (o .lists .ordered) ≡ n * n
   pub matrix : (i j : ℕ) → i < n → j < n → cellAt (o .lists .ordered) n i j ≡ cellAt book n (numbers (o .lists .order) i) (numbers (o .lists .order) j)
 
