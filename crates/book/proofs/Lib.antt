@@ -1,2 +1,3 @@
 -- What the walks over `Book` share.
 pub mod Thin
+pub mod Walks
