@@ -24,21 +24,6 @@ pub fn book_of<'a, 'b>(cells: &'a [f64], n: usize, rows: &'b [usize]) -> Book<'a
     Book { cells, n, rows }
 }
 
-// How many names it has.
-pub fn names<'a, 'b>(b: Book<'a, 'b>) -> usize
-    ensures { λ r. ⌜ r ≡ length (now (b .entry .rows)) ⌝ }
-{
-    b.rows.len()
-}
-
-// Row i, column j. Inner form.
-pub fn cell<'a, 'b>(b: Book<'a, 'b>, i: usize, j: usize) -> f64
-    requires { ⌜ Readable (now (b .cells)) (b .n) (now (b .rows)) × (i < length (now (b .rows))) × (j < length (now (b .rows))) ⌝ }
-    ensures { λ r. ⌜ r ≡ through (now (b .entry .cells)) (b .entry .n) (now (b .entry .rows)) i j ⌝ }
-{
-    distance::cell_at(b.cells, b.n, b.rows, i, j)
-}
-
 // Its distances, row by row. Inner form.
 pub fn fill_distances<'a, 'b>(b: Book<'a, 'b>, out: &mut [f64])
     requires { ⌜ Readable (now (b .cells)) (b .n) (now (b .rows)) × (0 < length (now (b .rows))) × (length (now out) ≡ length (now (b .rows)) * length (now (b .rows))) ⌝ }
