@@ -1,6 +1,7 @@
 // A book that is read through a list of row numbers, as a struct of the cells, their width and the row numbers. No cell is
 // copied. A function over it takes it apart and calls the covered form in `distance`; the last two make the struct from
-// plain lists, for callers that do not hold one.
+// plain lists, for callers that do not hold one. Each says `return`: without it a call that gives nothing back is lowered in
+// another way than one that gives an answer, and would need a proof of its own (proofs/Walks.antt).
 ghost use mathlib.Core.Path.{_≡_};
 ghost use Prim.Native.Nat.{_<_, _*_};
 ghost use lib.ListN.{length};
@@ -29,7 +30,7 @@ pub fn fill_distances<'a, 'b>(b: Book<'a, 'b>, out: &mut [f64])
     requires { ⌜ Readable (now (b .cells)) (b .n) (now (b .rows)) × (0 < length (now (b .rows))) × (length (now out) ≡ length (now (b .rows)) * length (now (b .rows))) ⌝ }
     ensures { λ _. ⌜ now (out .exit) ≡ grid (distAt (now (b .entry .cells)) (b .entry .n) (now (b .entry .rows))) (length (now (b .entry .rows))) ⌝ }
 {
-    distance::fill_distances(b.cells, b.n, b.rows, out)
+    return distance::fill_distances(b.cells, b.n, b.rows, out)
 }
 
 // Its cells, row by row. Inner form.
@@ -37,21 +38,21 @@ pub fn fill_cells<'a, 'b>(b: Book<'a, 'b>, out: &mut [f64])
     requires { ⌜ Readable (now (b .cells)) (b .n) (now (b .rows)) × (0 < length (now (b .rows))) × (length (now out) ≡ length (now (b .rows)) * length (now (b .rows))) ⌝ }
     ensures { λ _. ⌜ now (out .exit) ≡ grid (through (now (b .entry .cells)) (b .entry .n) (now (b .entry .rows))) (length (now (b .entry .rows))) ⌝ }
 {
-    distance::fill_cells(b.cells, b.n, b.rows, out)
+    return distance::fill_cells(b.cells, b.n, b.rows, out)
 }
 
 // Its distances, row by row in `out`; a refusal leaves `out` as it was.
 pub fn corr_to_distance<'a, 'b>(b: Book<'a, 'b>, out: &mut [f64]) -> Answer
     ensures { λ r. ⌜ record { answer = refusalOf r; out = now (out .exit) } ≡ corrToDistanceThrough (now (b .entry .cells)) (b .entry .n) (now (b .entry .rows)) (now (out .entry)) ⌝ }
 {
-    distance::corr_to_distance_through(b.cells, b.n, b.rows, out)
+    return distance::corr_to_distance_through(b.cells, b.n, b.rows, out)
 }
 
 // The same of its cells.
 pub fn submatrix<'a, 'b>(b: Book<'a, 'b>, out: &mut [f64]) -> Answer
     ensures { λ r. ⌜ record { answer = refusalOf r; out = now (out .exit) } ≡ submatrixOf (now (b .entry .cells)) (b .entry .n) (now (b .entry .rows)) (now (out .entry)) ⌝ }
 {
-    distance::submatrix(b.cells, b.n, b.rows, out)
+    return distance::submatrix(b.cells, b.n, b.rows, out)
 }
 
 // The distances of the book that the rows make, of plain lists: what a round reads. Inner form.
@@ -59,7 +60,7 @@ pub fn distances_through(cells: &[f64], n: usize, rows: &[usize], out: &mut [f64
     requires { ⌜ Readable (now cells) n (now rows) × (0 < length (now rows)) × (length (now out) ≡ length (now rows) * length (now rows)) ⌝ }
     ensures { λ _. ⌜ now (out .exit) ≡ grid (distAt (now (cells .entry)) n (now (rows .entry))) (length (now (rows .entry))) ⌝ }
 {
-    fill_distances(book_of(cells, n, rows), out)
+    return fill_distances(book_of(cells, n, rows), out)
 }
 
 // Its cells: the ordered matrix, where the rows are the order. Inner form.
@@ -67,5 +68,5 @@ pub fn cells_through(cells: &[f64], n: usize, rows: &[usize], out: &mut [f64])
     requires { ⌜ Readable (now cells) n (now rows) × (0 < length (now rows)) × (length (now out) ≡ length (now rows) * length (now rows)) ⌝ }
     ensures { λ _. ⌜ now (out .exit) ≡ grid (through (now (cells .entry)) n (now (rows .entry))) (length (now (rows .entry))) ⌝ }
 {
-    fill_cells(book_of(cells, n, rows), out)
+    return fill_cells(book_of(cells, n, rows), out)
 }
