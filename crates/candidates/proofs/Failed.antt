@@ -10,12 +10,12 @@ use lib.Seq.{drop-drop}
 use lib.Ieee.{Float, inf, lt}
 use Rattle.draws.specs.Counts.{seedingOf, seedingsOf, countOf}
 use Rattle.draws.specs.Draws.{Drawn, drawn, refused, andThen}
-use Rattle.draws.proofs.Taken.{Ends}
+use Rattle.draws.proofs.Taken.{Ends, Among}
 use Rattle.clustering.specs.Clustering.{Grouped, kmeansOf}
-use Rattle.clustering.proofs.Laws.{Took, Among, kmeans-took}
+use Rattle.clustering.proofs.Laws.{Took, kmeans-took}
 use Rattle.candidates.specs.Candidates.{Candidate, candidateOf, candidateFrom, Best, nothing, found, replaces, keep, triesFrom, tries, repeatsFrom, bestOf}
 use Rattle.candidates.specs.Failed.{NoStat, NoStats}
-use Rattle.candidates.proofs.Laws.{Passed, Within, count-is, repeat-took}
+use Rattle.candidates.proofs.Laws.{Passed, count-is, repeat-took}
 
 -- a candidate was kept
 abbrev Kept : Best → Type 0
@@ -67,7 +67,7 @@ module _ (x : ℕ → ℕ → Float) (m : ℕ) (z : 0 < m) where
           (n .0, failed-more j k at ds rest t (candidateOf x m (g .labels), rest, rw q refl, n .1) (v .1))
       after g rest q t (refused p) h = tt
 
-      by-draws : (D : Drawn Grouped) → kmeansOf x m k at ds ≡ D → Ends (Took m k ds) (Among k at) D
+      by-draws : (D : Drawn Grouped) → kmeansOf x m k at ds ≡ D → Ends (Took m k ds) (Among at (seedingOf k)) D
           → ((c : Candidate) (rest : List ℕ) → Made (λ u. u ≡ nothing → (keep c b ≡ nothing) × Failed j (suc k) (at + seedingOf k) rest) (triesFrom x m (suc k) j (keep c b) (at + seedingOf k) rest))
           → Made (λ u. u ≡ nothing → (b ≡ nothing) × Failed (suc j) k at ds) (andThen D (λ g rest. triesFrom x m (suc k) j (keep (candidateOf x m (g .labels)) b) (at + seedingOf k) rest))
       by-draws (drawn g rest) q t h =
@@ -102,7 +102,7 @@ module _ (x : ℕ → ℕ → Float) (m : ℕ) (z : 0 < m) where
           (o .0, repeated-more r at ds rest t (o .1) (w .1))
       after v rest t f (refused p) h = tt
 
-      by-draws : (D : Drawn Best) → Ends (Passed (λ v. Unit) (countOf m) ds) (Within at (countOf m)) D → Made (λ u. u ≡ nothing → (b ≡ nothing) × Failed (tries m) 2 at ds) D
+      by-draws : (D : Drawn Best) → Ends (Passed (λ v. Unit) (countOf m) ds) (Among at (countOf m)) D → Made (λ u. u ≡ nothing → (b ≡ nothing) × Failed (tries m) 2 at ds) D
           → ((v : Best) (rest : List ℕ) → Made (λ u. u ≡ nothing → (v ≡ nothing) × Repeated r (at + countOf m) rest) (repeatsFrom x m r v (at + countOf m) rest))
           → Made (λ u. u ≡ nothing → (b ≡ nothing) × Repeated (suc r) at ds) (andThen D (λ v rest. repeatsFrom x m r v (at + countOf m) rest))
       by-draws (drawn v rest) t f h = after v rest (t .1) f (repeatsFrom x m r v (at + countOf m) rest) (h v rest)

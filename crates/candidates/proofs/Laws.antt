@@ -12,9 +12,9 @@ use lib.Ieee.{Float, inf, lt}
 use Rattle.lists.specs.Lists.{numbers}
 use Rattle.draws.specs.Counts.{seedingOf, seedingsOf, countOf}
 use Rattle.draws.specs.Draws.{Drawn, drawn, refused, andThen}
-use Rattle.draws.proofs.Taken.{Ends, behind, then-ends, then-behind, then-same, ends-map}
+use Rattle.draws.proofs.Taken.{Ends, Among, behind, then-ends, then-behind, then-same, ends-map}
 use Rattle.clustering.specs.Clustering.{Grouped, kmeansOf}
-use Rattle.clustering.proofs.Laws.{Took, Among, kmeans-took, kmeans-behind, kmeans-same}
+use Rattle.clustering.proofs.Laws.{Took, kmeans-took, kmeans-behind, kmeans-same}
 use Rattle.scoring.proofs.Laws.{scores-same}
 use Rattle.candidates.specs.Candidates.{Candidate, candidate, candidateOf, candidateFrom, Best, nothing, found, replaces, keep, triesFrom, tries, repeatsFrom, bestOf}
 
@@ -43,12 +43,9 @@ module _ (x : ℕ → ℕ → Float) (m k : ℕ) (b : Best) (at : ℕ) where
   unfolding triesFrom
   tries-more j ds = by-turn j (kmeansOf x m k at ds)
 
--- what has been taken: c draws, from place `at` on
+-- what holds once c draws have been taken
 abbrev pub Passed : {S : Type 0} → (S → Type 0) → ℕ → List ℕ → S → List ℕ → Type 0
 Passed P c ds u rest = P u × (rest ≡ drop c ds) × (c ≤ length ds)
-
-abbrev pub Within : ℕ → ℕ → ℕ → Type 0
-Within at c p = (at ≤ p) × (p < at + c)
 
 -- a draws, then c more
 passed-both : {S : Type 0} (P : S → Type 0) (a c : ℕ) (ds ds′ rest : List ℕ) (u : S) → ds′ ≡ drop a ds → a ≤ length ds → Passed P c ds′ u rest → Passed P (a + c) ds u rest
@@ -68,33 +65,33 @@ tries-few m h = omega arith
 module _ (x : ℕ → ℕ → Float) (m : ℕ) (z : 0 < m) (P : Best → Type 0)
     (keeps : (l : List ℕ) (b : Best) → length l ≡ m → ((i : ℕ) → i < m → numbers l i < m) → P b → P (keep (candidateOf x m l) b)) where
   pub tries-took : (j k : ℕ) → 0 < k → k + j ≤ m + 1 → (b : Best) (at : ℕ) (ds : List ℕ) → P b
-      → Ends (Passed P (seedingsOf k j) ds) (Within at (seedingsOf k j)) (triesFrom x m k j b at ds)
+      → Ends (Passed P (seedingsOf k j) ds) (Among at (seedingsOf k j)) (triesFrom x m k j b at ds)
   unfolding triesFrom seedingsOf
   tries-took zero k some few b at ds h = (h, refl, zero-le)
   tries-took (suc j) k some few b at ds h =
-      then-ends (Took m k ds) (Among k at) (Passed P (seedingOf k + seedingsOf (suc k) j) ds) (Within at (seedingOf k + seedingsOf (suc k) j))
+      then-ends (Took m k ds) (Among at (seedingOf k)) (Passed P (seedingOf k + seedingsOf (suc k) j) ds) (Among at (seedingOf k + seedingsOf (suc k) j))
       (kmeansOf x m k at ds) (λ g rest. triesFrom x m (suc k) j (keep (candidateOf x m (g .labels)) b) (at + seedingOf k) rest)
       (kmeans-took x m k z some at ds)
       (λ g rest t.
-      ends-map (Passed P (seedingsOf (suc k) j) rest) (Within (at + seedingOf k) (seedingsOf (suc k) j)) (Passed P (seedingOf k + seedingsOf (suc k) j) ds) (Within at (seedingOf k + seedingsOf (suc k) j))
+      ends-map (Passed P (seedingsOf (suc k) j) rest) (Among (at + seedingOf k) (seedingsOf (suc k) j)) (Passed P (seedingOf k + seedingsOf (suc k) j) ds) (Among at (seedingOf k + seedingsOf (suc k) j))
       (triesFrom x m (suc k) j (keep (candidateOf x m (g .labels)) b) (at + seedingOf k) rest)
       (tries-took j (suc k) (omega arith) (omega arith) (keep (candidateOf x m (g .labels)) b) (at + seedingOf k) rest (keeps (g .labels) b (t .0) (λ i l. omega (arith, t .1 i l)) h))
       (λ u r q. passed-both P (seedingOf k) (seedingsOf (suc k) j) ds rest r u (t .2) (t .3) q)
       (λ p q. (omega (arith, q .0), omega (arith, q .1))))
       (λ p q. (q .0, omega (arith, q .1)))
 
-  pub repeat-took : 2 ≤ m → (b : Best) (at : ℕ) (ds : List ℕ) → P b → Ends (Passed P (countOf m) ds) (Within at (countOf m)) (triesFrom x m 2 (tries m) b at ds)
+  pub repeat-took : 2 ≤ m → (b : Best) (at : ℕ) (ds : List ℕ) → P b → Ends (Passed P (countOf m) ds) (Among at (countOf m)) (triesFrom x m 2 (tries m) b at ds)
   repeat-took two b at ds h = rw (count-is m) (tries-took (tries m) 2 (omega arith) (tries-few m two) b at ds h)
 
-  pub repeats-took : 2 ≤ m → (r : ℕ) (b : Best) (at : ℕ) (ds : List ℕ) → P b → Ends (Passed P (r * countOf m) ds) (Within at (r * countOf m)) (repeatsFrom x m r b at ds)
+  pub repeats-took : 2 ≤ m → (r : ℕ) (b : Best) (at : ℕ) (ds : List ℕ) → P b → Ends (Passed P (r * countOf m) ds) (Among at (r * countOf m)) (repeatsFrom x m r b at ds)
   unfolding repeatsFrom
   repeats-took two zero b at ds h = (h, rw (zero-mul (countOf m)) refl, rw (zero-mul (countOf m)) zero-le)
   repeats-took two (suc r) b at ds h =
-      then-ends (Passed P (countOf m) ds) (Within at (countOf m)) (Passed P (suc r * countOf m) ds) (Within at (suc r * countOf m))
+      then-ends (Passed P (countOf m) ds) (Among at (countOf m)) (Passed P (suc r * countOf m) ds) (Among at (suc r * countOf m))
       (triesFrom x m 2 (tries m) b at ds) (λ u rest. repeatsFrom x m r u (at + countOf m) rest)
       (repeat-took two b at ds h)
       (λ u rest t.
-      ends-map (Passed P (r * countOf m) rest) (Within (at + countOf m) (r * countOf m)) (Passed P (suc r * countOf m) ds) (Within at (suc r * countOf m))
+      ends-map (Passed P (r * countOf m) rest) (Among (at + countOf m) (r * countOf m)) (Passed P (suc r * countOf m) ds) (Among at (suc r * countOf m))
       (repeatsFrom x m r u (at + countOf m) rest)
       (repeats-took two r u (at + countOf m) rest (t .0))
       (λ v s q.
@@ -130,7 +127,7 @@ module _ (x : ℕ → ℕ → Float) (m : ℕ) (z : 0 < m) where
   tries-behind zero k some u at p b l = refl
   tries-behind (suc j) k some u at p b l =
       rw (kmeans-behind x m k z some at p b (omega arith))
-      (then-behind (Took m k p) (Among k at) (kmeansOf x m k at p) (λ g rest. triesFrom x m (suc k) j (keep (candidateOf x m (g .labels)) u) (at + seedingOf k) rest) b
+      (then-behind (Took m k p) (Among at (seedingOf k)) (kmeansOf x m k at p) (λ g rest. triesFrom x m (suc k) j (keep (candidateOf x m (g .labels)) u) (at + seedingOf k) rest) b
       (kmeans-took x m k z some at p)
       (λ g rest t. tries-behind j (suc k) (omega arith) (keep (candidateOf x m (g .labels)) u) (at + seedingOf k) rest b (omega (arith, ap length (t .2) ∙ length-drop (seedingOf k) p))))
 
@@ -139,7 +136,7 @@ module _ (x : ℕ → ℕ → Float) (m : ℕ) (z : 0 < m) where
   repeats-behind two zero u at p b l = refl
   repeats-behind two (suc r) u at p b l =
       rw (tries-behind (tries m) 2 (omega arith) u at p b (rw (← count-is m) (omega (arith, suc-mul r (countOf m)))))
-      (then-behind (Passed (λ v. Unit) (countOf m) p) (Within at (countOf m)) (triesFrom x m 2 (tries m) u at p) (λ v rest. repeatsFrom x m r v (at + countOf m) rest) b
+      (then-behind (Passed (λ v. Unit) (countOf m) p) (Among at (countOf m)) (triesFrom x m 2 (tries m) u at p) (λ v rest. repeatsFrom x m r v (at + countOf m) rest) b
       (repeat-took x m z (λ v. Unit) (λ l v n below h. tt) two u at p tt)
       (λ v rest t. repeats-behind two r v (at + countOf m) rest b (omega (arith, ap length (t .1) ∙ length-drop (countOf m) p, suc-mul r (countOf m)))))
 
@@ -157,7 +154,7 @@ module _ (x y : ℕ → ℕ → Float) (m : ℕ) (z : 0 < m) (agree : (i c : ℕ
   tries-same zero k some b at ds = refl
   tries-same (suc j) k some b at ds =
       rw (kmeans-same x y m k z some agree at ds)
-      (then-same (Took m k ds) (Among k at) (kmeansOf y m k at ds)
+      (then-same (Took m k ds) (Among at (seedingOf k)) (kmeansOf y m k at ds)
       (λ g rest. triesFrom x m (suc k) j (keep (candidateOf x m (g .labels)) b) (at + seedingOf k) rest)
       (λ g rest. triesFrom y m (suc k) j (keep (candidateOf y m (g .labels)) b) (at + seedingOf k) rest)
       (kmeans-took y m k z some at ds)
@@ -170,7 +167,7 @@ module _ (x y : ℕ → ℕ → Float) (m : ℕ) (z : 0 < m) (agree : (i c : ℕ
   repeats-same two zero b at ds = refl
   repeats-same two (suc r) b at ds =
       rw (tries-same (tries m) 2 (omega arith) b at ds)
-      (then-same (Passed (λ v. Unit) (countOf m) ds) (Within at (countOf m)) (triesFrom y m 2 (tries m) b at ds)
+      (then-same (Passed (λ v. Unit) (countOf m) ds) (Among at (countOf m)) (triesFrom y m 2 (tries m) b at ds)
       (λ v rest. repeatsFrom x m r v (at + countOf m) rest) (λ v rest. repeatsFrom y m r v (at + countOf m) rest)
       (repeat-took y m z (λ v. Unit) (λ l v n below h. tt) two b at ds tt)
       (λ v rest t. repeats-same two r v (at + countOf m) rest))

@@ -10,12 +10,12 @@ use lib.ListN.{length, drop}
 use lib.Seq.{drop-drop}
 use lib.Ieee.{Float}
 use Rattle.lists.specs.Lists.{numbers, cells}
-use Rattle.tstat.specs.Quality.{tstatOf, plainMean}
+use Rattle.tstat.specs.Tstat.{tstatOf, plainMean}
 use Rattle.draws.specs.Counts.{seedingOf, seedingsOf, countOf}
 use Rattle.draws.specs.Draws.{Drawn, drawn, refused, andThen}
 use Rattle.draws.specs.declared.Stop.{Stop}
 use Rattle.draws.specs.declared.Stop.the-variants.{DrawOutOfRange}
-use Rattle.draws.proofs.Taken.{Ends}
+use Rattle.draws.proofs.Taken.{Ends, Among}
 use Rattle.lloyd.specs.declared.Ended.{Ended}
 use Rattle.clustering.specs.Clustering.{Grouped, kmeansOf}
 use Rattle.clustering.specs.Steps.{ClusteredBy}
@@ -30,7 +30,7 @@ use Rattle.candidates.specs.Candidates.{candidateOf, candidateFrom, Best
 use Rattle.candidates.specs.Candidates as candidates
 use Rattle.candidates.specs.Steps.{bestFrom, replacesKept, SearchedBy, TriedBy, Lists}
 use Rattle.candidates.proofs.Answers.{searched-done, searched-stopped, done-by, stopped-by, tried-made, tried-refused, refused-by}
-use Rattle.candidates.proofs.Laws.{Passed, Within, tries-one, tries-more, tries-took, repeat-took}
+use Rattle.candidates.proofs.Laws.{Passed, tries-one, tries-more, tries-took, repeat-took}
 
 -- one candidate, by the answer of k-means
 module _ (x : ℕ → ℕ → Float) (m k : ℕ) (z : 0 < m) (one-of : 0 < k) (at : ℕ) (ds : List ℕ) (next : ℕ) (old new : List ℕ) where
@@ -125,7 +125,7 @@ module _ (x : ℕ → ℕ → Float) (m : ℕ) (z : 0 < m) (k end at : ℕ) (b :
   turn-done {n} {kept} {l} {s} some few h q =
       let v = searched-done (triesFrom x m k 1 b at (drop at draws)) q in
       let one-left : seedingsOf k 1 ≡ seedingOf k = one-seeding k in
-      let t = subst (Ends (Passed (λ u. Unit) (seedingsOf k 1) (drop at draws)) (Within at (seedingsOf k 1))) (v .2)
+      let t = subst (Ends (Passed (λ u. Unit) (seedingsOf k 1) (drop at draws)) (Among at (seedingsOf k 1))) (v .2)
       (tries-took x m z (λ u. Unit) (λ a c d e f. tt) 1 k some (omega arith) b at (drop at draws) tt) in
       let rest : v .0 ≡ drop n draws = t .1 ∙ ap (λ (y : ℕ). drop y (drop at draws)) one-left ∙ drop-drop (seedingOf k) at draws ∙ ap (λ (y : ℕ). drop y draws) (sym (v .1)) in
       let u = bestFrom kept l s in
@@ -160,7 +160,7 @@ module _ (x : ℕ → ℕ → Float) (m : ℕ) (z : 0 < m) (t repeat at : ℕ) (
       → (n ≡ at + countOf m) × (repeatsFrom x m (repeat - t) b at (drop at draws) ≡ repeatsFrom x m (repeat - (t + 1)) (bestFrom kept l s) n (drop n draws))
   repeat-done {n} {kept} {l} {s} two h q =
       let v = searched-done (triesFrom x m 2 (tries m) b at (drop at draws)) q in
-      let p = subst (Ends (Passed (λ u. Unit) (countOf m) (drop at draws)) (Within at (countOf m))) (v .2) (repeat-took x m z (λ u. Unit) (λ a c d e f. tt) two b at (drop at draws) tt) in
+      let p = subst (Ends (Passed (λ u. Unit) (countOf m) (drop at draws)) (Among at (countOf m))) (v .2) (repeat-took x m z (λ u. Unit) (λ a c d e f. tt) two b at (drop at draws) tt) in
       let rest : v .0 ≡ drop n draws = p .1 ∙ drop-drop (countOf m) at draws ∙ ap (λ (y : ℕ). drop y draws) (sym (v .1)) in
       let u = bestFrom kept l s in
       let r = repeat - (t + 1) in

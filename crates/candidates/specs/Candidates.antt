@@ -5,7 +5,7 @@ use mathlib.Core.List.{List}
 use lib.ListN.{length}
 use lib.Ieee.{Float, inf, lt, eq}
 use Rattle.lists.specs.Lists.{cells, numbers}
-use Rattle.tstat.specs.Quality.{tstatOf, plainMean}
+use Rattle.tstat.specs.Tstat.{tstatOf, plainMean}
 use Rattle.draws.specs.Counts.{seedingOf, countOf}
 use Rattle.draws.specs.Draws.{Drawn, drawn, andThen}
 use Rattle.clustering.specs.Clustering.{kmeansOf}

@@ -1,5 +1,5 @@
 -- What one member makes of the sums, what scaling makes of them, and the distances to a mean that stands in a list.
-use Prim.Native.Nat.{_+_, _≤_, ℕ}
+use Prim.Native.Nat.{_+_, _-_, _≤_, ℕ}
 use mathlib.Core.Path.{_∙_, _≡_, ap, sym}
 use mathlib.Core.Bool.{Bool, false, true}
 use mathlib.Core.List.{List, _++_}
@@ -9,7 +9,7 @@ use lib.Seq.{take-at}
 use lib.Ieee.{Float, add, binary64, mul, nan}
 use Rattle.lists.specs.Sums.{foldIf, squareFrom, sumIf, sumTo, zero64}
 use Rattle.lists.specs.Lists.{cellAt, cells, grid, listed, row}
-use Rattle.columns.specs.Columns.{columnAt, sumsTo}
+use Rattle.columns.specs.Columns.{columnAt, sumsFrom}
 use Rattle.lists.proofs.Sums.{fold-in, fold-out, sum-same}
 use Rattle.lists.proofs.Listed.{getD-listed, length-listed, listed-const, listed-length, listed-same}
 use Rattle.lists.proofs.Grid.{in-grid, row-cell}
@@ -44,12 +44,16 @@ scaled f n x {xs} e =
     (λ i h. ap (λ y. mul binary64 y x) (ap (λ z. cells z i) e ∙ getD-listed f n i nan h)))
 
 -- all the columns give the squared distances to the centroid that `own` is
-pub to-centroid : (x : ℕ → ℕ → Float) (h : ℕ → Float) (m : ℕ) {own across : List Float} → own ≡ listed h m → across ≡ grid (λ a b. x b a) m → sumsTo own across (length own) ≡ distances x m h
+pub to-centroid : (x : ℕ → ℕ → Float) (h : ℕ → Float) (m : ℕ) {own across : List Float} → own ≡ listed h m → across ≡ grid (λ a b. x b a) m → sumsFrom own across 0 (length own) ≡ distances x m h
 to-centroid x h m {own} {across} p q =
-    rw (p, length-listed h m)
-    (listed-same nan (λ j. sumTo (λ k. squareFrom (columnAt across m j k) (cells (listed h m) k)) m) (λ j. squared (x j) h m) m
-    (λ j l. sum-same (λ k. squareFrom (columnAt across m j k) (cells (listed h m) k)) (λ k. squareFrom (h k) (x j k)) m
-    (λ k r. rw (in-grid (λ a b. x b a) m k j nan q r l, getD-listed h m k nan r) (square-flip (h k) (x j k)))))
+    let n : m - 0 ≡ m = omega arith in
+    rw (p, length-listed h m, n)
+    (listed-same nan (λ j. sumTo (λ k. squareFrom (columnAt across m (0 + j) k) (cells (listed h m) k)) m) (λ j. squared (x j) h m) m
+    (λ j l.
+    let z : 0 + j ≡ j = omega arith in
+    rw z
+    (sum-same (λ k. squareFrom (columnAt across m j k) (cells (listed h m) k)) (λ k. squareFrom (h k) (x j k)) m
+    (λ k r. rw (in-grid (λ a b. x b a) m k j nan q r l, getD-listed h m k nan r) (square-flip (h k) (x j k))))))
 
 -- a part at the front of an array has come back
 pub front-fits : (p q : List Float) (m : ℕ) → length p ≡ m → m ≤ length (p ++ q)

@@ -2,12 +2,10 @@
 -- There are m items: x i c is column c of item i, and label i is its group.
 use Prim.Native.Nat.{ℕ, _*_, _≤_}
 use mathlib.Core.Path.{_≡_}
-use mathlib.Core.Bool.{Bool, false, cond, Bool·beq}
+use mathlib.Core.Bool.{Bool, cond, Bool·beq}
 use mathlib.Core.List.{List}
-use lib.Dec.{eqb}
-use lib.IntN.{pos}
 use lib.ListN.{length}
-use lib.Ieee.{Float, fin, mul, div, binary64}
+use lib.Ieee.{Float, mul, div, binary64}
 use Rattle.lists.specs.Lists.{listed, numbers, cellAt, grid}
 use Rattle.lists.specs.Sums.{one64, counted, allTo, sumIf, inGroup, groupSize}
 use Rattle.columns.specs.Pair.{squared}
@@ -16,7 +14,7 @@ use Rattle.columns.specs.Pair.{squared}
 abbrev pub sameGroup : List ℕ → List ℕ → ℕ → ℕ → Bool
 sameGroup a b m l = allTo (λ i. Bool·beq (inGroup (numbers a) l i) (inGroup (numbers b) l i)) m
 
--- 1 where it has not, else 0
+-- 0 if group l has the same members by both lists of labels, else 1
 abbrev pub movedMark : List ℕ → List ℕ → ℕ → ℕ → ℕ
 movedMark a b m l = cond (sameGroup a b m l) 0 1
 

@@ -1,8 +1,8 @@
 // The members of a group by the labels of all items, and the squared distances of all items to the mean of the members.
-// A label is tested before it is a place of a list, so nothing is asked of the labels.
+// A label is compared with the length before it is used as an index, so nothing is asked of the labels.
 ghost use mathlib.Core.Path.{_≡_};
 ghost use mathlib.Core.Bool.{cond};
-ghost use Prim.Native.Nat.{ℕ, _<_, _≤_, _*_};
+ghost use Prim.Native.Nat.{_<_, _≤_, _*_};
 ghost use lib.Dec.{eqb};
 ghost use lib.ListN.{length};
 ghost use lib.Ieee.{binary64, add, mul, div};
@@ -128,5 +128,5 @@ pub fn mean_distances(
     let m = labels.len();
     let mut mean = lists::row_buffer();
     mean_row(points, labels, l, n, &mut mean[..m]);
-    columns::squared_row(&mean[..m], across, out);
+    columns::squared_tail(&mean[..m], across, 0, out);
 }

@@ -1,6 +1,6 @@
 -- The five areas, in front of a list: what the first four have, the whole has.
 use Prim.Native.Nat.{ℕ, _+_, _-_, _*_, _<_, _≤_}
-use mathlib.Core.Path.{_≡_, refl, sym, _∙_, ap}
+use mathlib.Core.Path.{_≡_, sym, _∙_, ap}
 use mathlib.Core.List.{List, _++_}
 use native.Mathlib.Omega.{arith}
 use lib.ListN.{length, take, drop, length-append, length-drop}
@@ -11,10 +11,8 @@ use Rattle.lists.proofs.Parts.{front-less, part-front, part-length}
 use Rattle.columns.specs.Pair.{squaredAt}
 use Rattle.columns.specs.Columns.{pointsAt}
 use Rattle.pairs.specs.Regions.{Area, Turned, Summed}
-use Rattle.draws.specs.Counts.{seedingOf}
-use Rattle.seeding.specs.Seeding.{Ready}
+use Rattle.seeding.specs.Seeding.{Seedable, Ready}
 use Rattle.lloyd.specs.Area.{Held}
-use Rattle.clustering.specs.Steps.{Enough}
 
 -- four areas and a fifth
 module _ (m : ℕ) (front back : List Float) (t : Turned front m) (s : Summed front m) (l : length back ≡ m * m) where
@@ -73,12 +71,10 @@ module _ (area : List Float) (m : ℕ) (h : Held area m) where
   pub third-area : part (2 * (m * m)) (3 * (m * m) - 2 * (m * m)) area ≡ grid (squaredAt (pointsAt area m) m) m
   third-area = rw third-size (h .squares)
 
-  pub third-ready : (k : ℕ) (draws : List ℕ) (at : ℕ) → Enough m k draws at → Ready (part (2 * (m * m)) (3 * (m * m) - 2 * (m * m)) area) m k draws at
+  pub third-ready : (k : ℕ) (draws : List ℕ) (at : ℕ) → Seedable m k draws at → Ready (part (2 * (m * m)) (3 * (m * m) - 2 * (m * m)) area) m k draws at
   third-ready k draws at q =
       record {
         few = h .few;
         square = rw third-size (part-length (2 * (m * m)) (m * m) area (omega (arith, h .size)));
-        two = q .two;
-        names = q .names;
-        enough = q .enough;
+        asked = q;
       }

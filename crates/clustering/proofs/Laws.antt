@@ -15,10 +15,10 @@ use Rattle.columns.specs.Columns.{pointsAt}
 use Rattle.columns.proofs.Steps.{squared-same}
 use Rattle.pairs.specs.Pairs.{pairsArea}
 use Rattle.draws.specs.Counts.{seedingOf}
-use Rattle.draws.specs.Draws.{Drawn, drawn, refused, andThen}
+use Rattle.draws.specs.Draws.{Drawn, drawn, refused}
 use Rattle.draws.specs.declared.Stop.{Stop}
 use Rattle.draws.specs.declared.Stop.the-variants.{DrawOutOfRange}
-use Rattle.draws.proofs.Taken.{Ends, behind, then-ends, then-behind, then-same}
+use Rattle.draws.proofs.Taken.{Ends, Among, behind, then-ends, then-behind, then-same}
 use Rattle.seeding.specs.Seeding.{seeding, SeededBy, Below}
 use Rattle.seeding.specs.declared.Seeded as seeded
 use Rattle.seeding.proofs.Seeds.{seeding-took, seeding-behind, seed-done, seed-stopped}
@@ -31,7 +31,6 @@ use Rattle.lloyd.proofs.Same.{lloyd-same}
 use Rattle.lloyd.proofs.Below.{labels-below, labels-length}
 use Rattle.clustering.specs.Clustering.{Grouped, kmeansOf}
 use Rattle.clustering.specs.Steps.{ClusteredBy}
-use Rattle.clustering.specs.declared.Clustered.{Clustered}
 use Rattle.clustering.specs.declared.Clustered.the-variants.{Done, Stopped}
 
 -- the groups that the passes make from centres
@@ -52,7 +51,7 @@ module _ (x : ℕ → ℕ → Float) (m k : ℕ) (z : 0 < m) (one-of : 0 < k) (a
         let v = seed-done (squaredAt x m) m k z one-of at ds next cs s in
         record { groups = rw (v .1) h; items = v .2 }
 
-    pub cluster-done : (labels : List ℕ) {r : Ended} {labels′ : List ℕ} → area.Clustered x m cs r labels′ → ClusteredBy (kmeansOf x m k at ds) next labels (Done n r) labels′
+    pub cluster-done : (labels : List ℕ) {r : Ended} {labels′ : List ℕ} → area.LloydResult x m cs r labels′ → ClusteredBy (kmeansOf x m k at ds) next labels (Done n r) labels′
     unfolding kmeansOf
     cluster-done labels {r} {labels′} c =
         let v = seed-done (squaredAt x m) m k z one-of at ds next cs s in
@@ -60,20 +59,17 @@ module _ (x : ℕ → ℕ → Float) (m k : ℕ) (z : 0 < m) (one-of : 0 < k) (a
         let b : labels′ ≡ lloydLabels x m k (numbers cs) = c .labelled ∙ ap (λ (j : ℕ). lloydLabels x m j (numbers cs)) (v .1) in
         rw (v .3, v .0) (record { answer-is = ap (Done next) a; labels-after = b })
 
--- what holds of the groups and of the draws that remain, and of the place of a draw out of range
+-- what holds of the groups and of the draws that remain
 abbrev pub Took : ℕ → ℕ → List ℕ → Grouped → List ℕ → Type 0
 Took m k ds g rest = (length (g .labels) ≡ m) × ((i : ℕ) → i < m → numbers (g .labels) i < k) × (rest ≡ drop (seedingOf k) ds) × (seedingOf k ≤ length ds)
 
-abbrev pub Among : ℕ → ℕ → ℕ → Type 0
-Among k at p = (at ≤ p) × (p < at + seedingOf k)
-
 module _ (x : ℕ → ℕ → Float) (m k : ℕ) (z : 0 < m) (one-of : 0 < k) where
   -- k-means that is not refused gives a label below k to each item, and takes exactly the draws of its seeding; a draw out of range stands among those
-  pub kmeans-took : (at : ℕ) (ds : List ℕ) → Ends (Took m k ds) (Among k at) (kmeansOf x m k at ds)
+  pub kmeans-took : (at : ℕ) (ds : List ℕ) → Ends (Took m k ds) (Among at (seedingOf k)) (kmeansOf x m k at ds)
   unfolding kmeansOf
   kmeans-took at ds =
-      then-ends (λ cs rest. (length cs ≡ k) × Below m cs × (rest ≡ drop (seedingOf k) ds) × (seedingOf k ≤ length ds)) (Among k at)
-      (Took m k ds) (Among k at)
+      then-ends (λ cs rest. (length cs ≡ k) × Below m cs × (rest ≡ drop (seedingOf k) ds) × (seedingOf k ≤ length ds)) (Among at (seedingOf k))
+      (Took m k ds) (Among at (seedingOf k))
       (seeding (squaredAt x m) m k at ds) (λ cs rest. drawn (grouped x m k cs) rest)
       (seeding-took (squaredAt x m) m k z one-of at ds)
       (λ cs rest h. (labels-length x m k (numbers cs), labels-below x m k (numbers cs) z one-of, h .2, h .3))
@@ -84,7 +80,7 @@ module _ (x : ℕ → ℕ → Float) (m k : ℕ) (z : 0 < m) (one-of : 0 < k) wh
   unfolding kmeansOf
   kmeans-behind at p b l =
       rw (seeding-behind (squaredAt x m) m k z one-of at p b l)
-      (then-behind (λ cs rest. (length cs ≡ k) × Below m cs × (rest ≡ drop (seedingOf k) p) × (seedingOf k ≤ length p)) (Among k at)
+      (then-behind (λ cs rest. (length cs ≡ k) × Below m cs × (rest ≡ drop (seedingOf k) p) × (seedingOf k ≤ length p)) (Among at (seedingOf k))
       (seeding (squaredAt x m) m k at p) (λ cs rest. drawn (grouped x m k cs) rest) b
       (seeding-took (squaredAt x m) m k z one-of at p) (λ cs rest h. refl))
 
@@ -118,14 +114,14 @@ module _ (x : ℕ → ℕ → Float) (m k : ℕ) (z : 0 < m) (one-of : 0 < k) (a
       × (kmeansOf x m k at ds ≡ drawn (record { labels = new; ended = e }) (drop (seedingOf k) ds)) × (seedingOf k ≤ length ds)
   kmeans-done {n} {e} s =
       let v = done-is (kmeansOf x m k at ds) s in
-      let t = subst (Ends (Took m k ds) (Among k at)) (v .2) (kmeans-took x m k z one-of at ds) in
+      let t = subst (Ends (Took m k ds) (Among at (seedingOf k))) (v .2) (kmeans-took x m k z one-of at ds) in
       (v .1, t .0, t .1, v .2 ∙ ap (drawn (record { labels = new; ended = e })) (t .2), t .3)
 
   pub kmeans-stopped : {w : Stop} → ClusteredBy (kmeansOf x m k at ds) next old (Stopped w) new
       → (p : ℕ) × (w ≡ DrawOutOfRange p) × (kmeansOf x m k at ds ≡ refused p) × (at ≤ p) × (p < at + seedingOf k) × (new ≡ old)
   kmeans-stopped s =
       let v = stopped-is (kmeansOf x m k at ds) s in
-      let t = subst (Ends (Took m k ds) (Among k at)) (v .1) (kmeans-took x m k z one-of at ds) in
+      let t = subst (Ends (Took m k ds) (Among at (seedingOf k))) (v .1) (kmeans-took x m k z one-of at ds) in
       (v .0, v .2, v .1, t .0, t .1, v .3)
 
 -- items whose columns agree below m are grouped alike
@@ -134,7 +130,7 @@ pub kmeans-same : (x y : ℕ → ℕ → Float) (m k : ℕ) → 0 < m → 0 < k 
 unfolding kmeansOf
 kmeans-same x y m k z one-of agree at ds =
     rw (seeding-same (squaredAt x m) (squaredAt y m) m z (λ p i h l. squared-same x y m p i agree h l) k at ds)
-    (then-same (λ cs rest. (length cs ≡ k) × Below m cs × (rest ≡ drop (seedingOf k) ds) × (seedingOf k ≤ length ds)) (Among k at)
+    (then-same (λ cs rest. (length cs ≡ k) × Below m cs × (rest ≡ drop (seedingOf k) ds) × (seedingOf k ≤ length ds)) (Among at (seedingOf k))
     (seeding (squaredAt y m) m k at ds) (λ cs rest. drawn (grouped x m k cs) rest) (λ cs rest. drawn (grouped y m k cs) rest)
     (seeding-took (squaredAt y m) m k z one-of at ds)
     (λ cs rest h. let e = lloyd-same x y m k (numbers cs) agree (rw (h .0) at (h .1)) in rw (e .0, e .1)))

@@ -1,20 +1,12 @@
--- What the steps of k-means ask and leave. Definitions only.
-use Prim.Native.Nat.{ℕ, _+_, _≤_}
+-- What the steps of k-means answer and leave. Definitions only.
+use Prim.Native.Nat.{ℕ}
 use mathlib.Core.Path.{_≡_}
 use mathlib.Core.List.{List}
-use lib.ListN.{length}
-use Rattle.draws.specs.Counts.{seedingOf}
 use Rattle.draws.specs.Draws.{Drawn, drawn, refused}
 use Rattle.draws.specs.declared.Stop.the-variants.{DrawOutOfRange}
 use Rattle.clustering.specs.declared.Clustered.{Clustered}
 use Rattle.clustering.specs.declared.Clustered.the-variants.{Done, Stopped}
 use Rattle.clustering.specs.Clustering.{Grouped}
-
--- k groups of m items, and draws enough for their centres from `at` on
-pub record Enough (m k : ℕ) (draws : List ℕ) (at : ℕ) : Type 0 where
-  pub two : 2 ≤ k
-  pub names : k ≤ m
-  pub enough : at + seedingOf k ≤ length draws
 
 -- the answer: the place of the next draw, which is `next`, and how the passes ended; or the place of a draw out of range
 abbrev pub clusteredOf : ℕ → Drawn Grouped → Clustered

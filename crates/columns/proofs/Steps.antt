@@ -14,7 +14,7 @@ use Rattle.lists.proofs.Grid.{in-grid}
 use Rattle.lists.proofs.Rows.{row-end}
 use Rattle.lists.proofs.Parts.{getD-part, part-length}
 use Rattle.columns.specs.Pair.{squaredAt, pairAt}
-use Rattle.columns.specs.Columns.{added, addedFour, columnAt, sumsTo, sumsFrom}
+use Rattle.columns.specs.Columns.{added, addedFour, columnAt, sumsFrom}
 
 sum-four : (f : ℕ → Float) (c : ℕ) {s : Float} → s ≡ sumTo f c
     → add binary64 (add binary64 (add binary64 (add binary64 s (f c)) (f (c + 1))) (f (c + 2))) (f (c + 3)) ≡ sumTo f (c + 4)
@@ -71,14 +71,6 @@ module _ (own across : List Float) (from : ℕ) where
   -- a column has a cell for each sum
   pub column-length : length across ≡ m * m → from ≤ m → (c : ℕ) → c < m → length (column c) ≡ m - from
   column-length s w c h = part-length (c * m + from) (m - from) across (omega (arith, row-end c m h, s))
-
--- the items from the first on are all items
-pub from-first : (own across : List Float) (c : ℕ) → sumsFrom own across 0 c ≡ sumsTo own across c
-from-first own across c =
-    let n : length own - 0 ≡ length own = omega arith in
-    rw n
-    (listed-same nan (λ j. sumTo (λ k. squareFrom (columnAt across (length own) (0 + j) k) (cells own k)) c) (λ j. sumTo (λ k. squareFrom (columnAt across (length own) j k) (cells own k)) c) (length own)
-    (λ j l. let e : 0 + j ≡ j = omega arith in rw e))
 
 -- all the columns give the squared distances of the item that `own` is
 pub all-columns : (x : ℕ → ℕ → Float) (m i from : ℕ) {own across : List Float} → own ≡ listed (x i) m → across ≡ grid (λ a b. x b a) m → i < m

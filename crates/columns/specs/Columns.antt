@@ -26,19 +26,9 @@ pointsAt area m = cellAt (take (m * m) area) m
 abbrev pub sumsFrom : List Float → List Float → ℕ → ℕ → List Float
 sumsFrom own across from c = listed (λ j. sumTo (λ k. squareFrom (columnAt across (length own) (from + j) k) (cells own k)) c) (length own - from)
 
--- those of all items
-abbrev pub sumsTo : List Float → List Float → ℕ → List Float
-sumsTo own across c = listed (λ j. sumTo (λ k. squareFrom (columnAt across (length own) j k) (cells own k)) c) (length own)
-
 -- one item, the columns of all, and a sum for each item from `from` on
 pub record Tail (own across : List Float) (from : ℕ) (sums : List Float) : Type 0 where
   pub few : length own ≤ 256
   pub square : length across ≡ length own * length own
   pub within : from ≤ length own
   pub sums-length : length sums ≡ length own - from
-
--- the same of all items
-pub record Columns (own across sums : List Float) : Type 0 where
-  pub few : length own ≤ 256
-  pub square : length across ≡ length own * length own
-  pub sums-length : length sums ≡ length own

@@ -8,7 +8,7 @@ use Rattle.lists.specs.Sums.{sumTo, squareFrom}
 abbrev pub squared : (ℕ → Float) → (ℕ → Float) → ℕ → Float
 squared a b m = sumTo (λ c. squareFrom (b c) (a c)) m
 
--- the squared distance of items i and j, whose columns are x i and x j; and their distance
+-- the squared distance of items i and j, whose columns are x i and x j: in a round x i c is item i's distance to item c; and their distance
 unfoldable pub squaredAt : (ℕ → ℕ → Float) → ℕ → ℕ → ℕ → Float
 squaredAt x m i j = squared (x i) (x j) m
 

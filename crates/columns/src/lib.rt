@@ -4,7 +4,7 @@ ghost use mathlib.Core.Path.{_≡_};
 ghost use Prim.Native.Nat.{_≤_, _<_, _+_, _-_, _*_};
 ghost use lib.ListN.{length};
 ghost use Rattle.lists.specs.Lists.{listed, cells, part};
-ghost use Rattle.columns.specs.Columns.{added, addedFour, Columns, Tail, sumsTo, sumsFrom};
+ghost use Rattle.columns.specs.Columns.{added, addedFour, Tail, sumsFrom};
 
 // One column: to each sum the square of x less the column's cell.
 fn add_column(sums: &mut [f64], column: &[f64], x: f64)
@@ -101,12 +101,4 @@ pub fn squared_tail(own: &[f64], across: &[f64], from: usize, sums: &mut [f64])
     lists::fill(sums, 0.0);
     let c = add_fours(own, across, from, sums);
     add_rest(own, across, from, c, sums);
-}
-
-// The same to each item. Inner form.
-pub fn squared_row(own: &[f64], across: &[f64], sums: &mut [f64])
-    requires { ⌜ Columns (now own) (now across) (now sums) ⌝ }
-    ensures { λ _. ⌜ now (sums .exit) ≡ sumsTo (now (own .entry)) (now (across .entry)) (length (now (own .entry))) ⌝ }
-{
-    squared_tail(own, across, 0, sums);
 }

@@ -44,21 +44,6 @@ count-last = refl
 pub count-max : (m : ℕ) → m ≤ 256 → countOf m ≤ 214428
 count-max m h = subst (λ (x : ℕ). countOf m ≤ x) count-last (count-mono m 256 h)
 
--- one seeding is among those with k, k + 1, .. centres
-pub seeding-among : (i k j : ℕ) → i < j → seedingOf (k + i) ≤ seedingsOf k j
-unfolding seedingsOf
-seeding-among i k zero h = absurd (not-suc-le-zero h)
-seeding-among zero k (suc j) h = rw (add-zero k) (omega arith)
-seeding-among (suc i) k (suc j) h =
-    let e : suc k + i ≡ k + suc i = omega arith in
-    omega (arith, subst (λ (x : ℕ). seedingOf x ≤ seedingsOf (suc k) j) e (seeding-among i (suc k) j (le-of-suc-le-suc h)))
-
-pub seeding-in-count : (k m : ℕ) → 2 ≤ k → k ≤ max 2 (m - 1) → seedingOf k ≤ countOf m
-unfolding countOf
-seeding-in-count k m a b =
-    let e : 2 + (k - 2) ≡ k = omega arith in
-    subst (λ (x : ℕ). seedingOf x ≤ seedingsOf 2 (max 2 (m - 1) - 1)) e (seeding-among (k - 2) 2 (max 2 (m - 1) - 1) (omega arith))
-
 -- the seedings up to one more
 pub seedings-more : (j k : ℕ) → seedingsOf k (suc j) ≡ seedingsOf k j + seedingOf (k + j)
 unfolding seedingsOf

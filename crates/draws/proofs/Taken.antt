@@ -26,6 +26,10 @@ abbrev pub behind : {S : Type 0} → List ℕ → Drawn S → Drawn S
 behind b (drawn s rest) = drawn s (rest ++ b)
 behind b (refused p) = refused p
 
+-- a place among the c draws from place `at` on
+abbrev pub Among : ℕ → ℕ → ℕ → Type 0
+Among at c p = (at ≤ p) × (p < at + c)
+
 module _ {S : Type 0} (limit : ℕ) (step : S → ℕ → S) where
   -- the draw at place i of a list, with those up to `end` still to take
   pub take-good : (draws : List ℕ) (end i : ℕ) (s : S) → i < end → i < length draws → getD draws i 0 < limit

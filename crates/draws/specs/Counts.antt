@@ -3,7 +3,7 @@ use Prim.Native.Nat.{ℕ, zero, suc, _+_, _-_, _*_, max}
 use mathlib.Core.Bool.{cond}
 use lib.Dec.{ltb}
 
--- the trials for each centre after the first, of k centres; for k from 2 to 256: the whole part of ln k, and 2
+-- the trials for each centre after the first, of k centres; for k from 2 to 256: 2 more than the whole part of ln k
 abbrev pub trialsOf : ℕ → ℕ
 trialsOf k =
     cond (ltb k 3) 2

@@ -6,7 +6,7 @@ use Rattle.refusals.specs.Table.{when, unless, refusal}
 use Rattle.lists.specs.Sums.{sumTo, allTo, foldIf}
 use Rattle.sqrt.specs.Root.{root}
 use Rattle.stats.specs.Average.{constant, exactMean, varianceAbout, varianceOf, averaged}
-use Rattle.tstat.specs.Quality.{ratio, tstatOf}
+use Rattle.tstat.specs.Tstat.{ratio, tstatOf}
 use Rattle.scores.specs.Scores.{least, scoreOf, scoreFrom}
 use Rattle.silhouette.specs.Leaf.{scoreAt}
 use Rattle.draws.specs.Counts.{seedingsOf, countOf}

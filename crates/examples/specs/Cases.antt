@@ -9,7 +9,7 @@ use Rattle.lists.specs.Lists.{cells}
 use Rattle.bits.specs.Bits.{doubleOf}
 use Rattle.sqrt.specs.Root.{root}
 use Rattle.stats.specs.Average.{Averaged, mean, variance, deviation}
-use Rattle.tstat.specs.Quality.{tstat, meanOf}
+use Rattle.tstat.specs.Tstat.{tstat, meanOf}
 use Rattle.refusals.specs.Table.{Refusal, none, refused, Filled, Worked}
 use Rattle.distance.specs.Leaves.{corrToDistance, corrToDistanceThrough, submatrixOf}
 use Rattle.squared.specs.Leaves.{Measured, squaredDistance, squaredDistanceThrough}

@@ -10,7 +10,7 @@ use Rattle.lists.specs.Lists.{listed, cells, firstFrom}
 use Rattle.lists.specs.Sums.{counted}
 use Rattle.sqrt.specs.Root.{root}
 use Rattle.stats.specs.Average as stats
-use Rattle.tstat.specs.Quality as quality
+use Rattle.tstat.specs.Tstat as tstat
 use Rattle.refusals.specs.Table.{refusal}
 use Rattle.silhouette.specs.Leaf.{scoreAt}
 use Rattle.draws.specs.Counts.{countOf}
@@ -42,7 +42,7 @@ unfoldable pub answer : Question → Answered
 answer (the-root x) = valued 0 (root x ∷ [])
 answer (the-mean xs) = given (stats.mean (cells xs) (length xs))
 answer (the-variance xs ddof) = given (stats.variance (cells xs) (length xs) ddof)
-answer (the-tstat xs) = given (quality.tstat (cells xs) (length xs))
+answer (the-tstat xs) = given (tstat.tstat (cells xs) (length xs))
 answer (the-scores pairs labels) =
     valued (refusal (length pairs) (length labels) (length labels) true (firstFrom (length labels) labels) (length labels) .number)
     (listed (scoreAt pairs (length labels) labels) (length labels))

@@ -7,12 +7,12 @@ use borrow.Author.Tests.{eq-eqb}
 use lib.Dec.{eqb}
 use lib.ListN.{length}
 use Rattle.lists.proofs.Tests.{impossible}
-use Rattle.refusals.specs.Table.{Refusal, refused, refusal, unless}
+use Rattle.refusals.specs.Table.{Refusal, refused}
 use Rattle.refusals.proofs.Laws.{accepted, unless-none}
 use Rattle.intake.specs.declared.Intake.{Intake}
 use Rattle.intake.specs.Intake.{numberOf, placeOf, refusalOf}
 use Rattle.reports.proofs.Written.{places-are, refused-as}
-use Rattle.reports.specs.Book.{BookReport, bookShape, bookReported}
+use Rattle.reports.specs.Book.{bookShape, bookReported}
 
 -- a list that does not fit is refused, so the list for the answer has two places where the call is not refused
 not-none : (rows cols cells : ℕ) → eqb (bookShape rows cols cells .number) 0 ≡ true → ⊥

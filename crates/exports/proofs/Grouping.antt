@@ -7,13 +7,13 @@ use borrow.Author.Tests.{eq-eqb}
 use lib.Dec.{eqb}
 use lib.ListN.{length}
 use Rattle.lists.proofs.Tests.{impossible}
-use Rattle.refusals.specs.Table.{Refusal, refused, refusal, when, unless}
+use Rattle.refusals.specs.Table.{Refusal, refused}
 use Rattle.refusals.proofs.Laws.{accepted, when-none, unless-none}
 use Rattle.onc_answers.specs.declared.Onc.{Onc}
 use Rattle.onc_answers.specs.Answers.{numberOf, placeOf, groupsOf, readOf, answerOf, shapeOf}
 use Rattle.onc.specs.Onc.{Lists, Outcome}
 use Rattle.reports.proofs.Written.{places-are, refused-as}
-use Rattle.exports.specs.Grouping.{GroupingReport, groupingReported}
+use Rattle.exports.specs.Grouping.{groupingReported}
 
 -- a list that does not fit is refused, so the list for the answer has four places where the call is not refused
 not-none : (repeat rows cols cells : ℕ) → eqb (shapeOf repeat rows cols cells false .number) 0 ≡ true → ⊥

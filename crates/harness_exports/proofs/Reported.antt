@@ -1,7 +1,7 @@
 -- The answer in a list of three numbers, and what a call for C gives and leaves.
 use Prim.Native.Nat.{ℕ}
 use mathlib.Core.Path.{_≡_, refl, _∙_, ap}
-use mathlib.Core.Bool.{true, false, cond}
+use mathlib.Core.Bool.{false, cond}
 use mathlib.Core.List.{List, [], _∷_}
 use native.Mathlib.Omega.{arith}
 use borrow.Author.Tests.{eq-eqb}
@@ -15,7 +15,7 @@ use Rattle.kmeans_answers.specs.declared.Kmeans.{Kmeans}
 use Rattle.kmeans_answers.specs.Answers.{numberOf, placeOf, refusalOf, readOf}
 use Rattle.kmeans_answers.specs.Leaf.{Leaf}
 use Rattle.reports.proofs.Written.{places-are, refused-as}
-use Rattle.harness_exports.specs.Reported.{Reported, reportedOf}
+use Rattle.harness_exports.specs.Reported.{reportedOf}
 
 three : (xs : List ℕ) (a b c : ℕ) → length xs ≡ 3 → set (set (set xs 0 a) 1 b) 2 c ≡ a ∷ b ∷ c ∷ []
 three [] a b c h = absurd (omega arith)

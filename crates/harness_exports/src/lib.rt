@@ -11,18 +11,18 @@ ghost use Rattle.refusals.specs.Table.{refusal};
 ghost use Rattle.kmeans_answers.specs.Answers.{numberOf, placeOf, readOf};
 ghost use Rattle.kmeans.specs.Leaves.{plusPlusLeaf, lloydLeaf, labelsLeaf};
 ghost use Rattle.lists.specs.Lists.{cells, numbers};
-ghost use Rattle.tstat.specs.Quality.{tstatOf};
+ghost use Rattle.tstat.specs.Tstat.{tstatOf};
 ghost use Rattle.distance.specs.Distance.{Readable, distAt};
 ghost use Rattle.columns.specs.Pair.{squaredAt};
 ghost use Rattle.columns.specs.Columns.{pointsAt};
 ghost use Rattle.pairs.specs.Pairs.{pairsArea};
 ghost use Rattle.draws.specs.Counts.{seedingOf};
 ghost use Rattle.seeding.specs.Seeding as seeds;
-ghost use Rattle.seeding.specs.Seeding.{seeding};
+ghost use Rattle.seeding.specs.Seeding.{seeding, Seedable};
 ghost use Rattle.lloyd.specs.Passes.{lloydLabels};
 ghost use Rattle.lloyd.specs.Area.{Held, Centres};
 ghost use Rattle.clustering.specs.Clustering.{kmeansOf};
-ghost use Rattle.clustering.specs.Steps.{Enough, labelsAfter};
+ghost use Rattle.clustering.specs.Steps.{labelsAfter};
 ghost use Rattle.scoring.specs.Scoring.{scoresOf, Prepared};
 ghost use Rattle.harness_exports.specs.Reported.{reportedOf};
 ghost use Rattle.harness_exports.specs.Next.{nextAfter};
@@ -150,7 +150,7 @@ pub extern "C" fn onc_labels_in(
     at: usize,
     labels: &mut [usize],
 ) -> usize
-    requires { ⌜ Held (now area) m × Enough m k (now draws) at × (length (now labels) ≡ m) ⌝ }
+    requires { ⌜ Held (now area) m × Seedable m k (now draws) at × (length (now labels) ≡ m) ⌝ }
     ensures { λ r. ⌜ (r ≡ nextAfter (at + seedingOf k) (kmeansOf (pointsAt (now (area .entry)) m) m k at (drop at (now (draws .entry)))))
         × (now (labels .exit) ≡ labelsAfter (kmeansOf (pointsAt (now (area .entry)) m) m k at (drop at (now (draws .entry)))) (now (labels .entry)))
         × (take (4 * (m * m)) (now (area .exit)) ≡ take (4 * (m * m)) (now (area .entry))) ⌝ }
@@ -180,9 +180,9 @@ pub extern "C" fn onc_seed_in(
     centres: &mut [usize],
     weights: &mut [f64],
 ) -> usize
-    requires { ⌜ Held (now area) m × Enough m (length (now centres)) (now draws) at × (length (now weights) ≡ m) ⌝ }
+    requires { ⌜ Held (now area) m × Seedable m (length (now centres)) (now draws) at × (length (now weights) ≡ m) ⌝ }
     ensures { λ r. ⌜ (r ≡ nextAfter (at + seedingOf (length (now (centres .entry)))) (seeding (squaredAt (pointsAt (now (area .entry)) m) m) m (length (now (centres .entry))) at (drop at (now (draws .entry)))))
-        × seeds.Centres (seeding (squaredAt (pointsAt (now (area .entry)) m) m) m (length (now (centres .entry))) at (drop at (now (draws .entry)))) (now (centres .exit)) ⌝ }
+        × seeds.CentresAfter (seeding (squaredAt (pointsAt (now (area .entry)) m) m) m (length (now (centres .entry))) at (drop at (now (draws .entry)))) (now (centres .exit)) ⌝ }
 {
     match clustering::seed_in(area, m, draws, at, centres, weights) {
         Seeded::Stopped(_stop) => 0,
@@ -215,7 +215,7 @@ pub extern "C" fn onc_scores_in(
     scoring::scores_in(area, m, labels, k, scores);
 }
 
-// The t-statistic of the scores. Inner form.
+// The t-statistic of the scores.
 #[no_mangle]
 pub extern "C" fn onc_tstat_of(scores: &[f64]) -> f64
     ensures { λ r. ⌜ r ≡ tstatOf (cells (now (scores .entry))) (length (now (scores .entry))) ⌝ }

@@ -23,7 +23,7 @@ use Rattle.seeding.proofs.Seeds.{seed-done, seed-stopped}
 use Rattle.lloyd.specs.declared.Ended.{Ended}
 use Rattle.lloyd.specs.Area.{Centres}
 use Rattle.clustering.specs.Clustering.{kmeansOf}
-use Rattle.clustering.specs.Steps.{Enough, ClusteredBy}
+use Rattle.clustering.specs.Steps.{ClusteredBy}
 use Rattle.clustering.specs.declared.Clustered as clustered
 use Rattle.clustering.proofs.Laws.{kmeans-done, kmeans-stopped}
 use Rattle.kmeans_answers.specs.declared.Kmeans.{Kmeans}

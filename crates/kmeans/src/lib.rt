@@ -1,18 +1,17 @@
 // k-means called by itself: `kmeans_plus_plus`, `lloyd` and both together as `kmeans_labels`, on lent lists.
 // A refusal before the start leaves every list as it was; else the working lists are left zero at their fronts.
 ghost use mathlib.Core.Path.{_≡_};
-ghost use Prim.Native.Nat.{_≤_, _<_, _*_, ℕ};
+ghost use Prim.Native.Nat.{_≤_, _<_, _*_};
 ghost use lib.ListN.{length, drop};
 ghost use Rattle.lists.specs.Lists.{cellAt, numbers};
 ghost use Rattle.columns.specs.Pair.{squaredAt};
 ghost use Rattle.columns.specs.Columns.{pointsAt};
 ghost use Rattle.refusals.specs.Table.{workDoubles};
 ghost use Rattle.draws.specs.Counts.{seedingOf};
-ghost use Rattle.seeding.specs.Seeding.{seeding};
+ghost use Rattle.seeding.specs.Seeding.{seeding, Seedable};
 ghost use Rattle.lloyd.specs.Area.{Held, Centres};
 ghost use Rattle.lloyd.specs.Passes.{lloydLabels};
 ghost use Rattle.clustering.specs.Clustering.{kmeansOf};
-ghost use Rattle.clustering.specs.Steps.{Enough};
 ghost use Rattle.kmeans_answers.specs.Answers.{refusalOf, readOf};
 ghost use Rattle.kmeans_answers.specs.Leaf.{tookOf, ranOf};
 ghost use Rattle.kmeans.specs.Leaves.{Points, plusPlusLeaf, lloydLeaf, labelsOf, labelsLeaf};
@@ -30,7 +29,7 @@ fn centres_apart(
     found: &mut [usize],
     weights: &mut [f64],
 ) -> Kmeans
-    requires { ⌜ Held (now area) n × Enough n (length (now centres)) (now draws) 0 × (length (now found) ≡ length (now centres)) × (length (now weights) ≡ n) ⌝ }
+    requires { ⌜ Held (now area) n × Seedable n (length (now centres)) (now draws) 0 × (length (now found) ≡ length (now centres)) × (length (now weights) ≡ n) ⌝ }
     ensures { λ r. ⌜ record { answer = refusalOf r; read = readOf r; out = now (centres .exit) }
         ≡ tookOf (now (draws .entry)) (seeding (squaredAt (pointsAt (now (area .entry)) n) n) n (length (now (centres .entry))) 0 (now (draws .entry))) (now (centres .entry)) ⌝ }
 {
@@ -52,7 +51,7 @@ fn centres_alone(
     centres: &mut [usize],
     area: &mut [f64],
 ) -> Kmeans
-    requires { ⌜ Points (now points) n × Enough n k (now draws) 0 × (length (now centres) ≡ k) × (length (now area) ≡ 5 * (n * n)) ⌝ }
+    requires { ⌜ Points (now points) n × Seedable n k (now draws) 0 × (length (now centres) ≡ k) × (length (now area) ≡ 5 * (n * n)) ⌝ }
     ensures { λ r. ⌜ record { answer = refusalOf r; read = readOf r; out = now (centres .exit) }
         ≡ tookOf (now (draws .entry)) (seeding (squaredAt (cellAt (now (points .entry)) n) n) n k 0 (now (draws .entry))) (now (centres .entry)) ⌝ }
 {
@@ -62,7 +61,7 @@ fn centres_alone(
     centres_apart(area, n, draws, centres, &mut found[..k], &mut weights[..n])
 }
 
-// The same, where there are draws enough.
+// The same on the working list; 7 where there are too few draws.
 fn run_plus_plus(
     points: &[f64],
     n: usize,
@@ -148,7 +147,7 @@ fn labels_alone(
     labels: &mut [usize],
     area: &mut [f64],
 ) -> Kmeans
-    requires { ⌜ Points (now points) n × Enough n k (now draws) 0 × (length (now labels) ≡ n) × (length (now area) ≡ 5 * (n * n)) ⌝ }
+    requires { ⌜ Points (now points) n × Seedable n k (now draws) 0 × (length (now labels) ≡ n) × (length (now area) ≡ 5 * (n * n)) ⌝ }
     ensures { λ r. ⌜ record { answer = refusalOf r; read = readOf r; out = now (labels .exit) }
         ≡ tookOf (now (draws .entry)) (labelsOf (kmeansOf (cellAt (now (points .entry)) n) n k 0 (now (draws .entry)))) (now (labels .entry)) ⌝ }
 {
@@ -159,7 +158,7 @@ fn labels_alone(
     }
 }
 
-// The same, where there are draws enough.
+// The same on the working list; 7 where there are too few draws.
 fn run_labels(
     points: &[f64],
     n: usize,

@@ -1,20 +1,18 @@
 -- What a k-means leaf knows once nothing is refused, and what its lists are, refused or not.
 use Prim.Native.Nat.{ℕ, _<_, _≤_, _*_}
-use mathlib.Core.Path.{_≡_, refl, sym, _∙_, ap}
+use mathlib.Core.Path.{_≡_, refl, sym, _∙_}
 use mathlib.Core.Bool.{Bool, true, false, cond, _&&_, _||_}
 use mathlib.Core.List.{List, _++_}
-use borrow.Author.Tests.{ltb-false, lt-ltb, le-ltb, eqb-true, leb-true, ne-eqb, eq-eqb}
+use borrow.Author.Tests.{ltb-false, eqb-true, leb-true, ne-eqb}
 use lib.Dec.{eqb, ltb, leb}
-use lib.ListN.{length, take, drop, replicate}
-use lib.Seq.{length-take-le}
 use lib.Ieee.{Float}
 use Rattle.refusals.specs.Table as table
-use Rattle.refusals.specs.Table.{Refusal, none, when, orElse, refusal, workDoubles, wiped, workNumbers, wipedNumbers}
+use Rattle.refusals.specs.Table.{Refusal, none, orElse, refusal, workDoubles, wiped, workNumbers, wipedNumbers}
 use Rattle.refusals.specs.declared.Answer.{Answer}
-use Rattle.refusals.proofs.Laws.{when-none, Accepted, accepted, fits-asked, passed}
+use Rattle.refusals.proofs.Laws.{when-none, accepted, fits-asked, passed}
 use Rattle.kmeans_answers.specs.declared.Kmeans.{Kmeans}
 use Rattle.kmeans_answers.specs.Answers.{numberOf, refusalOf, readOf}
-use Rattle.kmeans_answers.specs.Leaf.{leafRefusal, listsFit, Ran, Leaf, leafOf}
+use Rattle.kmeans_answers.specs.Leaf.{leafRefusal, listsFit, Ran, leafOf}
 use Rattle.lists.proofs.Tests.{impossible, both, neither}
 
 -- a refusal of the rows above stands
@@ -96,8 +94,3 @@ module _ (a : Kmeans) (q : Refusal) (n : ℕ) (ran : Ran) (out : List ℕ) (floa
       → record { answer = refusalOf a; read = readOf a; out = out′; floats = floats′; numbers = numbers′ } ≡ leafOf q n ran out floats numbers
   unfolding leafOf
   was-run h r f g = rw (h, ← r, f, g)
-
--- a front part that was filled, and what lies behind it
-pub filled-front : {A : Type 0} (w : ℕ) (xs : List A) (z : A) {front : List A} → w ≤ length xs → front ≡ replicate (length (take w xs)) z
-    → front ++ drop w xs ≡ replicate w z ++ drop w xs
-filled-front w xs z h e = rw (e, length-take-le w xs h)

@@ -71,7 +71,7 @@ pub fn read_of(a: Kmeans) -> usize
     }
 }
 
-// The rows that every call on lent lists has.
+// The answer of the common checks, as a leaf's.
 fn answered(a: Answer) -> Kmeans
     ensures { λ r. ⌜ (refusalOf r ≡ table.refusalOf a) × (readOf r ≡ 0) ⌝ }
 {
@@ -132,8 +132,7 @@ pub fn wipe(n: usize, floats: &mut [f64], numbers: &mut [usize])
     requires { ⌜ (n ≤ 256) × (workDoubles n ≤ length (now floats)) × (workNumbers n ≤ length (now numbers)) ⌝ }
     ensures { λ _. ⌜ (now (floats .exit) ≡ wiped n (now (floats .entry))) × (now (numbers .exit) ≡ wipedNumbers n (now (numbers .entry))) ⌝ }
 {
-    let doubles = 8 * (n * n) + 256 * n;
-    lists::fill(&mut floats[..doubles], 0.0);
+    refusals::wipe_doubles(n, floats);
     let count = 320 * n;
     lists::fill_numbers(&mut numbers[..count], 0);
 }

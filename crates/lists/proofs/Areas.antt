@@ -5,12 +5,11 @@ use mathlib.Core.List.{List, [], _∷_, _++_, append-assoc}
 use native.Mathlib.Numerals.{add-one}
 use native.Mathlib.Nat.{mul-le-mul-right, suc-mul, zero-mul}
 use native.Mathlib.Omega.{arith}
-use lib.ListN.{length, getD, take, drop, set, length-set, length-take, length-drop, take-append-drop}
-use lib.Seq.{take-set-le, drop-set-add, drop-cons, set-at, take-add, drop-drop, getD-take, getD-drop, ext-getD}
-use Rattle.lists.specs.Lists.{listed, row, part, put, flat}
+use lib.ListN.{length, getD, take, drop, set, length-drop, take-append-drop}
+use lib.Seq.{take-set-le, drop-set-add, take-add, drop-drop}
+use Rattle.lists.specs.Lists.{listed, part, put, flat}
 use Rattle.lists.proofs.Listed.{writes, writes-front, length-listed, listed-same, listed-of}
-use Rattle.lists.proofs.Rows.{row-end}
-use Rattle.lists.proofs.Grid.{row-long, flat-at, listed-append}
+use Rattle.lists.proofs.Grid.{flat-at, listed-append}
 use Rattle.lists.proofs.Parts.{put-length, put-take, put-part, put-drop, part-length, getD-part}
 
 module _ {A : Type 0} where
@@ -42,19 +41,6 @@ module _ {A : Type 0} where
   stores-done z b f n d e h =
       e ∙ sym (take-append-drop b (stores b f n d))
       ∙ rw (stores-front b f n d, stores-back b f n d, writes-front z f n (drop b d) (simp length-drop (omega arith)), drop-drop n b d)
-
-  -- a cell of a row that lies in the first n * n cells
-  row-cell : (z : A) (p : List A) (n i k : ℕ) → i < n → k < n → getD (row p n i) k z ≡ getD (take (n * n) p) (i * n + k) z
-  row-cell z p n i k h l =
-      getD-take n (drop (i * n) p) k z l ∙ getD-drop (i * n) p k z ∙ sym (getD-take (n * n) p (i * n + k) z (omega (arith, row-end i n h)))
-
-  -- rows that lie in a part where two lists agree
-  pub row-same : (z : A) (p q : List A) (n i : ℕ) → i < n → take (n * n) p ≡ take (n * n) q → n * n ≤ length p → n * n ≤ length q → row p n i ≡ row q n i
-  row-same z p q n i h e lp lq =
-      ext-getD z (row p n i) (row q n i) (row-long p n i lp h ∙ sym (row-long q n i lq h))
-      (λ k l.
-      let m : k < n = omega (arith, row-long p n i lp h) in
-      row-cell z p n i k h m ∙ ap (λ x. getD x (i * n + k) z) e ∙ sym (row-cell z q n i k h m))
 
   -- the same three areas, as a part that was put
   pub stores-put : (z : A) (b : ℕ) (f : ℕ → A) (n : ℕ) {xs : List A} (d : List A) → xs ≡ stores b f n d → b + n ≤ length d → xs ≡ put b n d (listed f n)

@@ -1,10 +1,10 @@
 -- What a program's tests on a double say: that it is finite, and that it is a NaN.
-use Prim.Native.Nat.{ℕ, _*_}
+use Prim.Native.Nat.{_*_}
 use mathlib.Core.Path.{_≡_, refl, sym, _∙_, subst}
 use mathlib.Core.Bool.{Bool, true, false, not}
 use borrow.Author.Tests.{eq-eqb}
-use lib.Dec.{T, eqb}
-use lib.Ieee.{Float, nan, inf, fin, lt, ne, eq, isNan, toBits, binary64, up, down}
+use lib.Dec.{T}
+use lib.Ieee.{Float, nan, inf, fin, lt, ne, eq, isNan, up, down}
 use lib.Ieee.Scale.{finite}
 
 -- below +infinity, x is finite where it is above -infinity

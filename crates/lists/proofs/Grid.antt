@@ -92,7 +92,3 @@ module _ {A : Type 0} where
 
   pub rows-length : (g : ℕ → ℕ → A) (m i : ℕ) {xs : List A} (d : List A) → xs ≡ rowsTo g m i d → i ≤ m → length d ≡ m * m → length xs ≡ m * m
   rows-length g m i d e h l = rw e (simp (length-append, length-listed, length-drop) (omega (arith, mul-le-mul-right m h)))
-
-  -- the matrix whose rows are the columns of another
-  pub transposed : (z : A) (g : ℕ → ℕ → A) (m : ℕ) {xs : List A} → xs ≡ grid g m → grid (λ i j. getD xs (j * m + i) z) m ≡ grid (λ i j. g j i) m
-  transposed z g m {xs} e = grid-same z (λ i j. getD xs (j * m + i) z) (λ i j. g j i) m (λ i j h l. in-grid g m j i z e l h)

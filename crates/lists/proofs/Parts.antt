@@ -1,13 +1,11 @@
--- Laws of parts of lists, and of loops that fill or copy from the front. `part a k l` is the k elements from a on.
--- Assumes nothing.
+-- Laws of parts of lists, lent and put back. `part a k l` is the k elements from a on. Assumes nothing.
 use mathlib.Core.Path.{_≡_, refl, sym, ap, _∙_}
 use mathlib.Core.List.{List, [], _∷_, _++_, append-nil, append-assoc}
 use Prim.Native.Nat.{ℕ, zero, suc, _+_, _-_, _<_, _≤_}
-use native.Mathlib.Nat.{not-suc-le-zero, le-of-suc-le-suc}
 use native.Mathlib.Numerals.{add-one}
 use native.Mathlib.Omega.{arith}
-use lib.ListN.{length, take, drop, set, getD, replicate, length-append, length-take, length-drop, drop-of-length-le, take-append-drop}
-use lib.Seq.{getD-take, getD-drop, take-suc-set, take-all, take-suc, take-append-le, take-at, drop-at, take-take, drop-drop, take-set-le, drop-set-lt, take-set-lt, drop-set-add, length-take-le, take-add, drop-cons, set-at}
+use lib.ListN.{length, take, drop, set, getD, length-append, length-take, length-drop, drop-of-length-le, take-append-drop}
+use lib.Seq.{getD-take, getD-drop, take-all, take-append-le, take-at, drop-at, take-take, drop-drop, length-take-le, take-add, drop-cons, set-at}
 use Rattle.lists.specs.Lists.{part, put}
 
 module _ {A : Type 0} where
@@ -18,28 +16,6 @@ module _ {A : Type 0} where
   -- a part that comes back, at its plain length and with what it holds
   pub put-same : (a k j : ℕ) (xs : List A) {ys zs : List A} → k ≡ j → ys ≡ zs → put a k xs ys ≡ put a j xs zs
   put-same a k j xs e f = rw (e, f)
-
-  -- a loop that fills from the front: after n turns it is `replicate n v ++ drop n d`
-  fill-suc : (n : ℕ) (v : A) (d : List A) → n < length d → set (replicate n v ++ drop n d) n v ≡ replicate (suc n) v ++ drop (suc n) d
-  fill-suc n v [] l = absurd (not-suc-le-zero l)
-  fill-suc zero v (x ∷ d) l = refl
-  fill-suc (suc n) v (x ∷ d) l = ap (λ (t : List A). v ∷ t) (fill-suc n v d (le-of-suc-le-suc l))
-
-  pub fill-more : (n : ℕ) (v : A) (d : List A) → n < length d → set (replicate n v ++ drop n d) n v ≡ replicate (n + 1) v ++ drop (n + 1) d
-  fill-more n v d l = rw add-one (fill-suc n v d l)
-
-  -- a loop that copies from the front: after n turns it is `take n s ++ drop n d`
-  copy-suc : (n : ℕ) (s d : List A) (z : A) → n < length d → n < length s → set (take n s ++ drop n d) n (getD s n z) ≡ take (suc n) s ++ drop (suc n) d
-  copy-suc n s [] z l m = absurd (not-suc-le-zero l)
-  copy-suc n [] (x ∷ d) z l m = absurd (not-suc-le-zero m)
-  copy-suc zero (y ∷ s) (x ∷ d) z l m = refl
-  copy-suc (suc n) (y ∷ s) (x ∷ d) z l m = ap (λ (t : List A). y ∷ t) (copy-suc n s d z (le-of-suc-le-suc l) (le-of-suc-le-suc m))
-
-  pub copy-more : (n : ℕ) (s d : List A) (z : A) → n < length d → n < length s → set (take n s ++ drop n d) n (getD s n z) ≡ take (n + 1) s ++ drop (n + 1) d
-  copy-more n s d z l m = rw add-one (copy-suc n s d z l m)
-
-  pub copy-all : (n : ℕ) (s d : List A) → length s ≤ n → length d ≤ n → take n s ++ drop n d ≡ s
-  copy-all n s d l m = rw (take-all n s l, drop-of-length-le d m) (append-nil s)
 
 module _ {A : Type 0} where
   pub part-length : (a k : ℕ) (l : List A) → a + k ≤ length l → length (part a k l) ≡ k
@@ -102,30 +78,10 @@ module _ {A : Type 0} where
     pub put-before : (b j : ℕ) → b + j ≤ a → part b j (put a k xs ys) ≡ part b j xs
     put-before b j h = part-front a b j (put a k xs ys) xs h (put-take a (omega arith))
 
--- A store in the whole, seen in a part.
+-- a cell of a part
 module _ {A : Type 0} (b k : ℕ) (l : List A) where
-  pub part-set-before : (i : ℕ) (v : A) → i < b → part b k (set l i v) ≡ part b k l
-  part-set-before i v h = ap (λ (x : List A). take k x) (drop-set-lt b l i v h)
-
-  pub part-set-after : (i : ℕ) (v : A) → b + k ≤ i → part b k (set l i v) ≡ part b k l
-  part-set-after i v h = part-front (b + k) b k (set l i v) l (omega arith) (take-set-le (b + k) l i v h)
-
-  pub part-set-in : (i : ℕ) (v : A) → i < k → part b k (set l (b + i) v) ≡ set (part b k l) i v
-  part-set-in i v h = ap (λ (x : List A). take k x) (drop-set-add b l i v) ∙ take-set-lt k (drop b l) i v h
-
   pub getD-part : (i : ℕ) (z : A) → i < k → getD (part b k l) i z ≡ getD l (b + i) z
   getD-part i z h = getD-take k (drop b l) i z h ∙ getD-drop b l i z
-
-  -- a store right behind the part makes it longer by one
-  pub part-push : (v : A) → b + k < length l → part b (k + 1) (set l (b + k) v) ≡ part b k l ++ (v ∷ [])
-  part-push v h =
-      let inside : k < length (drop b l) = simp length-drop (omega arith) in
-      ap (λ (x : List A). take (k + 1) x) (drop-set-add b l k v) ∙ rw add-one (take-suc-set (drop b l) k v inside)
-
-  pub part-suc : (z : A) → b + k < length l → part b (k + 1) l ≡ part b k l ++ (getD l (b + k) z ∷ [])
-  part-suc z h =
-      let inside : k < length (drop b l) = simp length-drop (omega arith) in
-      rw (add-one, take-suc (drop b l) k z inside, getD-drop) refl
 
 module _ {A : Type 0} where
   pub getD-behind : (a i : ℕ) (l m : List A) (z : A) → a ≤ i → drop a l ≡ drop a m → getD l i z ≡ getD m i z
@@ -159,9 +115,6 @@ module _ {A : Type 0} (a : ℕ) (xs : List A) (inside : a ≤ length xs) where
 
     pub tail-before : (b j : ℕ) → b + j ≤ a → part b j (put a (length xs - a) xs ys) ≡ part b j xs
     tail-before = put-before a (length xs - a) xs ys (omega arith) tail-len
-
-    pub tail-part : (b j : ℕ) → part (a + b) j (put a (length xs - a) xs ys) ≡ part b j ys
-    tail-part b j = sym (part-drop a b j (put a (length xs - a) xs ys)) ∙ ap (λ (x : List A). part b j x) tail-rest
 
     -- what the callee keeps behind place b of the part is kept behind a + b of the whole
     pub tail-behind : (b : ℕ) → drop b ys ≡ drop b (part a (length xs - a) xs) → drop (a + b) (put a (length xs - a) xs ys) ≡ drop (a + b) xs

@@ -31,3 +31,8 @@ take-replicate (suc n) (suc m) x h = ap (λ (l : List _). x ∷ l) (take-replica
 
 pub buffer-front : {A : Type 0} (n m : ℕ) (x : A) {l : List A} → l ≡ replicate m x → n ≤ m → take n l ≡ replicate n x
 buffer-front n m x e h = ap (take n) e ∙ take-replicate n m x h
+
+-- a front part that was filled, and what lies behind it
+pub filled-front : {A : Type 0} (w : ℕ) (xs : List A) (z : A) {front : List A} → w ≤ length xs → front ≡ replicate (length (take w xs)) z
+    → front ++ drop w xs ≡ replicate w z ++ drop w xs
+filled-front w xs z h e = rw (e, length-take-le w xs h)

@@ -6,7 +6,7 @@ ghost use mathlib.Core.Bool.{false};
 ghost use lib.ListN.{length, replicate};
 ghost use lib.Ieee.{inf};
 ghost use lib.Ieee.Scale.{finite};
-ghost use Rattle.lists.specs.Lists.{row, cells, cellAt, listed, grid, part, put, firstFrom};
+ghost use Rattle.lists.specs.Lists.{row, cells, cellAt, listed, grid, put, firstFrom};
 ghost use Rattle.lists.specs.Sums as sums;
 ghost use Rattle.lists.specs.Sums.{counted, sumTo};
 
@@ -29,7 +29,7 @@ pub fn fill_numbers(xs: &mut [usize], x: usize)
     }
 }
 
-// The first list over the second. Inner form: they are as long as each other.
+// Copies the first list over the second. Inner form: they are as long as each other.
 pub fn copy(from: &[f64], to: &mut [f64])
     requires { ⌜ length (now from) ≡ length (now to) ⌝ }
     ensures { λ _. ⌜ now (to .exit) ≡ now (from .entry) ⌝ }
@@ -50,13 +50,14 @@ pub fn copy_numbers(from: &[usize], to: &mut [usize])
     }
 }
 
-// Cells copied to a place further on in the same list. Inner form: the two places do not overlap.
-pub fn copy_within(xs: &mut [f64], from: usize, to: usize, count: usize)
-    requires { ⌜ (from + count ≤ to) × (to + count ≤ length (now xs)) ⌝ }
-    ensures { λ _. ⌜ now (xs .exit) ≡ put to count (now (xs .entry)) (part from count (now (xs .entry))) ⌝ }
+// Cells that lie `step` apart, copied one behind the other to a place further on in the same list. Inner form: the
+// cells that are read lie in front of `to`.
+pub fn gather(xs: &mut [f64], from: usize, step: usize, to: usize, count: usize)
+    requires { ⌜ (to + count ≤ length (now xs)) × ((j : ℕ) → j < count → from + j * step < to) ⌝ }
+    ensures { λ _. ⌜ now (xs .exit) ≡ put to count (now (xs .entry)) (listed (λ j. cells (now (xs .entry)) (from + j * step)) count) ⌝ }
 {
     for j in 0..count {
-        let cell = from + j;
+        let cell = from + j * step;
         let at = to + j;
         xs[at] = xs[cell];
     }

@@ -20,7 +20,7 @@ use Rattle.centroids.proofs.Members.{distances-agree, mean-same, size-same}
 use Rattle.lists.proofs.First.{first-found, first-more}
 use Rattle.lists.proofs.Sums.{fold-none}
 use Rattle.lists.proofs.Listed.{getD-listed, listed-const, listed-same}
-use Rattle.lloyd.specs.Area.{After, Clustered, Kept, Table, tableRow}
+use Rattle.lloyd.specs.Area.{After, LloydResult, Kept, Table, tableRow}
 use Rattle.lloyd.proofs.Rows.{points-kept}
 use Rattle.lloyd.specs.declared.Ended.{Ended}
 use Rattle.lloyd.specs.declared.Ended.the-variants.{PassLimit, Converged}
@@ -76,7 +76,7 @@ module _ (x : ℕ → ℕ → Float) (m : ℕ) (centres : List ℕ) where
     unfolding labelsAt
     same = rw (w .given, e)
 
-    pub has-converged : t < 300 → firstTo converges t ≡ t → sameLabels labels fresh m ≡ true → Clustered x m centres Converged labels
+    pub has-converged : t < 300 → firstTo converges t ≡ t → sameLabels labels fresh m ≡ true → LloydResult x m centres Converged labels
     has-converged h f s =
         let p = first-found converges t 300 f (same ∙ s) h in
         record {
@@ -96,7 +96,7 @@ module _ (x : ℕ → ℕ → Float) (m : ℕ) (centres : List ℕ) where
           rows = rw (add-one, ← e, ← d) r;
         }
 
-  pub run-out : (t : ℕ) {labels : List ℕ} {area : List Float} → t ≡ 300 → firstTo converges t ≡ t → After x m centres t labels area → Clustered x m centres PassLimit labels
+  pub run-out : (t : ℕ) {labels : List ℕ} {area : List Float} → t ≡ 300 → firstTo converges t ≡ t → After x m centres t labels area → LloydResult x m centres PassLimit labels
   run-out t q f w =
       let p : firstTo converges 300 ≡ 300 = rw q at f in
       record {
@@ -117,5 +117,5 @@ module _ (m : ℕ) (area₀ area : List Float) (e : take (4 * (m * m)) area ≡ 
   pub after-now : (centres labels : List ℕ) → After (pointsAt area₀ m) m centres 0 labels area → After (pointsAt area m) m centres 0 labels area
   after-now centres labels w = subst (λ (p : List Float). After (cellAt p m) m centres 0 labels area) (sym (points-kept m area area₀ e)) w
 
-  pub clustered-now : {centres labels : List ℕ} {r : Ended} → Clustered (pointsAt area m) m centres r labels → Clustered (pointsAt area₀ m) m centres r labels
-  clustered-now {centres} {labels} {r} w = subst (λ (p : List Float). Clustered (cellAt p m) m centres r labels) (points-kept m area area₀ e) w
+  pub clustered-now : {centres labels : List ℕ} {r : Ended} → LloydResult (pointsAt area m) m centres r labels → LloydResult (pointsAt area₀ m) m centres r labels
+  clustered-now {centres} {labels} {r} w = subst (λ (p : List Float). LloydResult (cellAt p m) m centres r labels) (points-kept m area area₀ e) w

@@ -12,11 +12,12 @@ use lib.Ieee.{Float, binary64, fits, nan}
 use lib.Dec.{T}
 use Rattle.nearest.specs.Nearest.{nearestTo}
 use Rattle.centroids.specs.Groups.{Items, distances}
-use Rattle.lists.specs.Lists.{cellAt, cells, grid, part, put, row}
+use Rattle.lists.specs.Lists.{cellAt, cells, grid, listed, part, row}
 use Rattle.columns.specs.Pair.{squaredAt}
 use Rattle.columns.specs.Columns.{pointsAt}
 use Rattle.nearest.proofs.Steps.{nearest-same}
 use Rattle.lists.proofs.Parts.{part-drop, part-front, put-after, put-before, put-part, put-take}
+use Rattle.lists.proofs.Areas.{listed-part}
 use Rattle.lists.proofs.Listed.{listed-same}
 use Rattle.lists.proofs.Grid.{cell-below, row-grid}
 use Rattle.lists.proofs.Rows.{row-end}
@@ -56,12 +57,20 @@ module _ {area : List Float} {m : ℕ} (h : Held area m) where
       }
 
   -- a row of the squared pair distances has the distances to that item
-  pub pair-row : (j : ℕ) → j < m → part (2 * (m * m) + j * m) m area ≡ distances (pointsAt area m) m (pointsAt area m j)
+  pair-row : (j : ℕ) → j < m → part (2 * (m * m) + j * m) m area ≡ distances (pointsAt area m) m (pointsAt area m j)
   unfolding squaredAt
   pair-row j l =
       sym (row-part (2 * (m * m)) (m * m) m j area (row-end j m l))
       ∙ row-grid nan (squaredAt (pointsAt area m) m) m j (h .squares) l
       ∙ listed-same nan (squaredAt (pointsAt area m) m j) (λ i. squaredAt (pointsAt area m) m i j) m (λ i q. squared-flip (pointsAt area m) m j i)
+
+  -- the same by its cells, one after the other
+  pub pair-cells : (j : ℕ) → j < m → listed (λ i. cells area (2 * (m * m) + j * m + i * 1)) m ≡ distances (pointsAt area m) m (pointsAt area m j)
+  pair-cells j l =
+      listed-same nan (λ i. cells area (2 * (m * m) + j * m + i * 1)) (λ i. cells area (2 * (m * m) + j * m + i)) m
+      (λ i q. let e : 2 * (m * m) + j * m + i * 1 ≡ 2 * (m * m) + j * m + i = omega arith in ap (cells area) e)
+      ∙ listed-part nan (2 * (m * m) + j * m) m area (omega (arith, row-end j m l, h .size))
+      ∙ pair-row j l
 
   -- the cells of the list are doubles, so those of the points are
   pub points-fit : ((i : ℕ) → T (fits binary64 (getD area i nan))) → (j c : ℕ) → j < m → c < m → T (fits binary64 (pointsAt area m j c))

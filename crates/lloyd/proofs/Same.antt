@@ -4,11 +4,11 @@ use mathlib.Core.Path.{_∙_, _≡_, ap, refl, sym}
 use mathlib.Core.Bool.{Bool, cond, false, true}
 use native.Mathlib.Omega.{arith}
 use lib.Ieee.{Float, nan}
-use Rattle.lloyd.specs.Passes.{centroidsAt, distsOf, labelsAt, labelsOf, lloydEnded, lloydLabels, moved, nearest, passes, convergesAt, taken, takes}
+use Rattle.lloyd.specs.Passes.{centroidsAt, distsOf, labelsAt, labelsOf, lloydEnded, lloydLabels, moved, nearest, passes, convergesAt, taken, takesItem}
 use lib.Dec.{eqb, ltb}
 use Rattle.centroids.specs.Groups.{mean}
 use Rattle.columns.specs.Pair.{squared}
-use Rattle.lists.specs.Lists.{cells, firstTo, numbers}
+use Rattle.lists.specs.Lists.{cells, numbers}
 use Rattle.lists.specs.Sums.{groupSize}
 use Rattle.nearest.proofs.Steps.{farthest-below, nearest-same}
 use Rattle.centroids.proofs.Members.{mean-agree, squared-agree}
@@ -42,11 +42,11 @@ module _ (x y : ℕ → ℕ → Float) (m k : ℕ) (centre : ℕ → ℕ) (agree
   -- the next centroids
   moved-same : (label : ℕ → ℕ) (dist : ℕ → Float) (l c : ℕ) → c < m → moved x label dist m l c ≡ moved y label dist m l c
   moved-same label dist l c h =
-      cond-at (eqb (groupSize label m l) 0) (x (takes label dist m l)) (mean x label m l) c
-      ∙ cond-same (eqb (groupSize label m l) 0) (x (takes label dist m l) c) (mean x label m l c) (y (takes label dist m l) c) (mean y label m l c)
-      (agree (takes label dist m l) c (farthest-below (taken label dist m l) dist m m (omega arith) (omega arith)) h)
+      cond-at (eqb (groupSize label m l) 0) (x (takesItem label dist m l)) (mean x label m l) c
+      ∙ cond-same (eqb (groupSize label m l) 0) (x (takesItem label dist m l) c) (mean x label m l c) (y (takesItem label dist m l) c) (mean y label m l c)
+      (agree (takesItem label dist m l) c (farthest-below (taken label dist m l) dist m m (omega arith) (omega arith)) h)
       (mean-agree x y label m l c (λ i q. agree i c q h))
-      ∙ sym (cond-at (eqb (groupSize label m l) 0) (y (takes label dist m l)) (mean y label m l) c)
+      ∙ sym (cond-at (eqb (groupSize label m l) 0) (y (takesItem label dist m l)) (mean y label m l) c)
 
   centroids-same : (t l c : ℕ) → l < k → c < m → centroidsAt x m k centre t l c ≡ centroidsAt y m k centre t l c
   unfolding centroidsAt

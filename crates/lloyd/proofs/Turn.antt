@@ -9,7 +9,7 @@ use native.Mathlib.Numerals.{add-one}
 use native.Mathlib.Decide.{ℕ-discrete}
 use lib.ListN.{getD, length, set, take}
 use lib.Ieee.{Float, binary64, fits, inf, nan}
-use Rattle.lloyd.specs.Passes.{moved, taken, takes}
+use Rattle.lloyd.specs.Passes.{moved, taken, takesItem}
 use lib.Dec.{T, eqb}
 use borrow.Author.Tests.{eq-eqb, ne-eqb}
 use Rattle.nearest.specs.Nearest.{farthestOf, farthestTo}
@@ -35,7 +35,7 @@ module _ {area : List Float} {m : ℕ} (held : Held area m) (labels : List ℕ) 
         own = rw (eq-eqb (groupSize (numbers labels) m l) 0 z) (row-own m l area r (held .size) within t n);
         others = row-other m l area r (held .size) within t n;
         front = row-front m l area r (held .size) within t n;
-        untaken = d ∙ rw (eq-eqb (groupSize (numbers labels) m l) 0 z);
+        dists-after = d ∙ rw (eq-eqb (groupSize (numbers labels) m l) 0 z);
       }
 
   pub kept-step : (old : List ℕ) → (groupSize (numbers labels) m l ≡ 0 → ⊥) → sameGroup old labels m l ≡ true → Kept (pointsAt area m) area old labels m l
@@ -45,7 +45,7 @@ module _ {area : List Float} {m : ℕ} (held : Held area m) (labels : List ℕ) 
         own = rw (ne-eqb (groupSize (numbers labels) m l) 0 z) (k z s);
         others = λ j a. refl;
         front = refl;
-        untaken = rw (ne-eqb (groupSize (numbers labels) m l) 0 z);
+        dists-after = rw (ne-eqb (groupSize (numbers labels) m l) 0 z);
       }
 
   pub mean-step : {area′ : List Float} → (groupSize (numbers labels) m l ≡ 0 → ⊥)
@@ -57,7 +57,7 @@ module _ {area : List Float} {m : ℕ} (held : Held area m) (labels : List ℕ) 
         own = rw (ne-eqb (groupSize (numbers labels) m l) 0 z) (row-own m l area r (held .size) within t n);
         others = row-other m l area r (held .size) within t n;
         front = row-front m l area r (held .size) within t n;
-        untaken = rw (ne-eqb (groupSize (numbers labels) m l) 0 z);
+        dists-after = rw (ne-eqb (groupSize (numbers labels) m l) 0 z);
       }
 
   pub single-step : {area′ : List Float} (j : ℕ) → ((i : ℕ) → T (fits binary64 (getD area i nan))) → groupSize (numbers labels) m l ≡ 1 → j < m → inGroup (numbers labels) l j ≡ true
@@ -100,7 +100,7 @@ module _ {labels : List ℕ} {dists₀ area₀ : List Float} {m l : ℕ} {dists 
       subst (λ (p : List Float). Kept (cellAt p m) area old labels m l) (sym (points-kept m area area₀ (w .same)))
       (λ z s. w .later l (omega arith) ∙ k z s)
 
-  took : farthestOf dists ≡ takes (numbers labels) (cells dists₀) m l
+  took : farthestOf dists ≡ takesItem (numbers labels) (cells dists₀) m l
   took =
       let u : ℕ → Float = untaken (taken (numbers labels) (cells dists₀) m l) (cells dists₀) in
       ap (λ n. farthestTo (λ i. false) (cells dists) n .at) (listed-length u m (w .remaining))
@@ -113,7 +113,7 @@ module _ {labels : List ℕ} {dists₀ area₀ : List Float} {m l : ℕ} {dists 
   unfolding taken
   remains s e =
       e ∙ rw (add-one, took)
-      (left-one (taken (numbers labels) (cells dists₀) m l) (cells dists₀) (eqb (groupSize (numbers labels) m l) 0) (takes (numbers labels) (cells dists₀) m l) m
+      (left-one (taken (numbers labels) (cells dists₀) m l) (cells dists₀) (eqb (groupSize (numbers labels) m l) 0) (takesItem (numbers labels) (cells dists₀) m l) m
       (farthest-below (taken (numbers labels) (cells dists₀) m l) (cells dists₀) m m (omega arith) s)
       (w .remaining))
 
@@ -122,7 +122,7 @@ module _ {labels : List ℕ} {dists₀ area₀ : List Float} {m l : ℕ} {dists 
       let q : Refreshed (pointsAt area₀ m) labels m l dists area dists′ area′ =
       subst (λ (p : List Float). Refreshed (cellAt p m) labels m l dists area dists′ area′) (points-kept m area area₀ (w .same)) r in
       record {
-        remaining = remains s (q .untaken);
+        remaining = remains s (q .dists-after);
         done = λ j h. by-cases (ℕ-discrete j l)
             (λ e. rw e (rw took at (q .own)))
             (λ e. q .others j e ∙ w .done j (omega arith));

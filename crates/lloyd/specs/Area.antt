@@ -41,7 +41,7 @@ withRow area m l r = put (4 * (m * m) + l * m) m area r
 abbrev pub Table : List Float → ℕ → ℕ → (ℕ → ℕ → Float) → (ℕ → ℕ → Float) → Type 0
 Table area m k x centroid = (l : ℕ) → l < k → tableRow area m l ≡ distances x m (centroid l)
 
--- of a group with members, the same as in the labels before, row l need not be worked out anew: it has the distances to the mean
+-- if group l has members, the same as before, row l already has the distances to their mean
 abbrev pub Kept : (ℕ → ℕ → Float) → List Float → List ℕ → List ℕ → ℕ → ℕ → Type 0
 Kept x area old labels m l =
     (groupSize (numbers labels) m l ≡ 0 → ⊥) → sameGroup old labels m l ≡ true → tableRow area m l ≡ distances x m (mean x (numbers labels) m l)
@@ -51,7 +51,7 @@ pub record Refreshed (x : ℕ → ℕ → Float) (labels : List ℕ) (m l : ℕ)
   pub own : tableRow area′ m l ≡ distances x m (cond (eqb (groupSize (numbers labels) m l) 0) (x (farthestOf dists)) (mean x (numbers labels) m l))
   pub others : (j : ℕ) → (j ≡ l → ⊥) → tableRow area′ m j ≡ tableRow area m j
   pub front : take (4 * (m * m)) area′ ≡ take (4 * (m * m)) area
-  pub untaken : dists′ ≡ cond (eqb (groupSize (numbers labels) m l) 0) (set dists (farthestOf dists) (inf true)) dists
+  pub dists-after : dists′ ≡ cond (eqb (groupSize (numbers labels) m l) 0) (set dists (farthestOf dists) (inf true)) dists
 
 -- the labels and the table after t passes
 pub record After (x : ℕ → ℕ → Float) (m : ℕ) (centres : List ℕ) (t : ℕ) (labels : List ℕ) (area : List Float) : Type 0 where
@@ -59,6 +59,6 @@ pub record After (x : ℕ → ℕ → Float) (m : ℕ) (centres : List ℕ) (t :
   pub rows : Table area m (length centres) x (centroidsAt x m (length centres) (numbers centres) t)
 
 -- what a call answers, and what it leaves in the labels
-pub record Clustered (x : ℕ → ℕ → Float) (m : ℕ) (centres : List ℕ) (r : Ended) (labels′ : List ℕ) : Type 0 where
+pub record LloydResult (x : ℕ → ℕ → Float) (m : ℕ) (centres : List ℕ) (r : Ended) (labels′ : List ℕ) : Type 0 where
   pub answer : r ≡ lloydEnded x m (length centres) (numbers centres)
   pub labelled : labels′ ≡ lloydLabels x m (length centres) (numbers centres)

@@ -21,12 +21,12 @@ taken label dist m (suc l) i =
     taken label dist m l i || (eqb (groupSize label m l) 0 && eqb (farthestTo (taken label dist m l) dist m .at) i)
 
 -- the item that group l takes if it is empty
-abbrev pub takes : (ℕ → ℕ) → (ℕ → Float) → ℕ → ℕ → ℕ
-takes label dist m l = farthestTo (taken label dist m l) dist m .at
+abbrev pub takesItem : (ℕ → ℕ) → (ℕ → Float) → ℕ → ℕ → ℕ
+takesItem label dist m l = farthestTo (taken label dist m l) dist m .at
 
 -- the next centroid of group l: the item that it takes if it is empty, else the mean of its members
 abbrev pub moved : (ℕ → ℕ → Float) → (ℕ → ℕ) → (ℕ → Float) → ℕ → ℕ → ℕ → Float
-moved x label dist m l = cond (eqb (groupSize label m l) 0) (x (takes label dist m l)) (mean x label m l)
+moved x label dist m l = cond (eqb (groupSize label m l) 0) (x (takesItem label dist m l)) (mean x label m l)
 
 -- the nearest of k centroids to item i, the lowest label of equals, with its squared distance; label 0 if no distance is below infinity
 abbrev pub nearest : (ℕ → ℕ → Float) → ℕ → ℕ → (ℕ → ℕ → Float) → ℕ → Best
@@ -45,7 +45,7 @@ centroidsAt x m k centre zero = λ l. x (centre l)
 centroidsAt x m k centre (suc t) =
     moved x (numbers (labelsOf x m k (centroidsAt x m k centre t))) (cells (distsOf x m k (centroidsAt x m k centre t))) m
 
--- the labels after t passes; before the first an item is in no group, and k, which no pass gives, says so
+-- the labels after t passes; before the first pass each label is k, which no pass gives
 unfoldable pub labelsAt : (ℕ → ℕ → Float) → ℕ → ℕ → (ℕ → ℕ) → ℕ → List ℕ
 labelsAt x m k centre zero = listed (λ i. k) m
 labelsAt x m k centre (suc t) = labelsOf x m k (centroidsAt x m k centre t)

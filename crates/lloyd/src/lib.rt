@@ -13,7 +13,7 @@ ghost use Rattle.columns.specs.Columns.{pointsAt};
 ghost use Rattle.nearest.specs.Nearest.{nearestTo, farthestOf};
 ghost use Rattle.centroids.specs.Groups.{meanOver, distances};
 ghost use Rattle.lloyd.specs.Passes.{moved};
-ghost use Rattle.lloyd.specs.Area.{Held, Centres, tableRow, withRow, Table, Kept, Refreshed, After, Clustered};
+ghost use Rattle.lloyd.specs.Area.{Held, Centres, tableRow, withRow, Table, Kept, Refreshed, After, LloydResult};
 
 // The passes converged, or were cut after 300.
 pub enum Ended {
@@ -27,7 +27,7 @@ fn copy_row(area: &mut [f64], m: usize, j: usize, l: usize)
     ensures { λ _. ⌜ now (area .exit) ≡ withRow (now (area .entry)) m l (distances (pointsAt (now (area .entry)) m) m (pointsAt (now (area .entry)) m j)) ⌝ }
 {
     let square = m * m;
-    lists::copy_within(area, 2 * square + j * m, 4 * square + l * m, m);
+    lists::gather(area, 2 * square + j * m, 1, 4 * square + l * m, m);
 }
 
 // The farthest item is taken, and its pair distances become row l of the table.
@@ -195,7 +195,7 @@ fn run(
     requires { ⌜ Held (now area) (length (now labels)) × Centres (now centres) (length (now labels)) ⌝ }
     requires { ⌜ (length (now fresh) ≡ length (now labels)) × (length (now dists) ≡ length (now labels)) × (length (now sums) ≡ length (now labels)) ⌝ }
     requires { ⌜ After (pointsAt (now area) (length (now labels))) (length (now labels)) (now centres) 0 (now labels) (now area) ⌝ }
-    ensures { λ r. ⌜ Clustered (pointsAt (now (area .entry)) (length (now (labels .entry)))) (length (now (labels .entry))) (now (centres .entry)) r (now (labels .exit)) ⌝ }
+    ensures { λ r. ⌜ LloydResult (pointsAt (now (area .entry)) (length (now (labels .entry)))) (length (now (labels .entry))) (now (centres .entry)) r (now (labels .exit)) ⌝ }
     ensures { λ _. ⌜ take (4 * (length (now (labels .entry)) * length (now (labels .entry)))) (now (area .exit)) ≡ take (4 * (length (now (labels .entry)) * length (now (labels .entry)))) (now (area .entry)) ⌝ }
 {
     let k = centres.len();
@@ -215,7 +215,7 @@ fn run(
 pub fn lloyd_in(area: &mut [f64], m: usize, centres: &[usize], labels: &mut [usize]) -> Ended
     requires { ⌜ Held (now area) m ⌝ }
     requires { ⌜ Centres (now centres) m × (length (now labels) ≡ m) ⌝ }
-    ensures { λ r. ⌜ Clustered (pointsAt (now (area .entry)) m) m (now (centres .entry)) r (now (labels .exit)) ⌝ }
+    ensures { λ r. ⌜ LloydResult (pointsAt (now (area .entry)) m) m (now (centres .entry)) r (now (labels .exit)) ⌝ }
     ensures { λ _. ⌜ take (4 * (m * m)) (now (area .exit)) ≡ take (4 * (m * m)) (now (area .entry)) ⌝ }
 {
     first_table(area, m, centres);

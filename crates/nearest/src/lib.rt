@@ -14,7 +14,7 @@ pub struct Best {
     pub at: usize,
 }
 
-// l where x is below b.
+// l where x is below b, else `other`.
 fn label_of(x: f64, b: f64, l: usize, other: usize) -> usize
     ensures { λ r. ⌜ r ≡ cond (lt x b) l other ⌝ }
 {

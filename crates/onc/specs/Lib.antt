@@ -9,7 +9,7 @@
 --   partition/specs/Partition.antt       groups, labels, and what a partition is; Orders.antt: how it stands in two lists
 --   scoring/specs/Scoring.antt           the scores of a round's items; one item's in scores/specs/Scores.antt
 --   clustering/specs/Clustering.antt     kmeansOf: seeding/specs/Seeding.antt, then lloyd/specs/Passes.antt
---   tstat/specs/Quality.antt, stats/specs/Average.antt, columns/specs/Pair.antt, distance/specs/Distance.antt, sqrt/specs/Root.antt
+--   tstat/specs/Tstat.antt, stats/specs/Average.antt, columns/specs/Pair.antt, distance/specs/Distance.antt, sqrt/specs/Root.antt
 --   draws/specs                          the counts, the draws, and what can end a run; refusals/specs/Table.antt: the table
 -- Steps.antt has what the functions of this crate ask and leave, for their proofs.
 pub mod Demands

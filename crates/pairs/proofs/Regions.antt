@@ -1,19 +1,19 @@
 -- Laws of the list of four areas: what a step keeps, and what a row more makes.
 use Prim.Native.Nat.{ℕ, _+_, _-_, _*_, _<_, _≤_}
-use mathlib.Core.Path.{_≡_, refl, sym, _∙_, ap, subst}
-use mathlib.Core.Bool.{Bool, true, false, _&&_}
+use mathlib.Core.Path.{_≡_, refl, sym, _∙_, ap}
+use mathlib.Core.Bool.{_&&_}
 use mathlib.Core.List.{List, _++_, append-assoc, append-nil}
 use native.Mathlib.Nat.{mul-le-mul-right, suc-mul, div-add-mod'}
 use native.Mathlib.Omega.{arith}
 use lib.ListN.{length, getD, take, drop, length-append, length-drop, drop-of-length-le}
-use lib.Seq.{take-take, take-all, take-at, drop-at, getD-take, length-take-le}
+use lib.Seq.{take-all, take-at, getD-take, length-take-le}
 use lib.Ieee.{Float, nan}
 use Rattle.sqrt.specs.Root.{root}
 use Rattle.lists.specs.Lists.{listed, cells, cellAt, part, put, row, flat, grid}
 use Rattle.lists.proofs.Listed.{listed-of, listed-same, getD-listed, length-listed, listed-length}
 use Rattle.lists.proofs.Rows.{row-end}
 use Rattle.lists.proofs.Grid.{cell-below, row-cell, row-long, flat-at, grid-same, listed-append, in-grid}
-use Rattle.lists.proofs.Parts.{front-less, part-front, drop-behind, put-take, put-length, put-part, getD-part, getD-front}
+use Rattle.lists.proofs.Parts.{front-less, part-front, put-take, put-length, put-part, getD-part, getD-front}
 use Rattle.lists.proofs.Areas.{put-next, areaTo, area-more, area-front, area-rows, area-length}
 use Rattle.columns.specs.Pair.{squaredAt, pairAt}
 use Rattle.pairs.specs.Pairs.{pairsArea}

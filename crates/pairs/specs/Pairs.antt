@@ -5,6 +5,6 @@ use lib.Ieee.{Float}
 use Rattle.lists.specs.Lists.{grid}
 use Rattle.columns.specs.Pair.{squaredAt, pairAt}
 
--- the four areas of a round over m items whose columns are x: the columns by item, the items by column, the squared pair distances, the pair distances
+-- the four areas of a round over m items whose columns are x, x i c being item i's distance to item c: the columns by item, the items by column, the squared pair distances, the pair distances
 unfoldable pub pairsArea : (ℕ → ℕ → Float) → ℕ → List Float
 pairsArea x m = grid x m ++ (grid (λ i j. x j i) m ++ (grid (squaredAt x m) m ++ grid (pairAt x m) m))

@@ -1,7 +1,7 @@
-// Distances between the rows of a matrix of m by m points. The work is done in one list of four areas of m by m cells:
-// the points, their transpose, the squared pair distances, and the pair distances.
+// Distances between m points of m columns each. The work is done in one list of four areas of m by m cells: the points,
+// their transpose, the squared pair distances, and the pair distances.
 ghost use mathlib.Core.Path.{_≡_};
-ghost use Prim.Native.Nat.{ℕ, _<_, _≤_, _+_, _-_, _*_};
+ghost use Prim.Native.Nat.{_<_, _≤_, _+_, _-_, _*_};
 ghost use lib.ListN.{length, take};
 ghost use Rattle.sqrt.specs.Root.{root};
 ghost use Rattle.lists.specs.Lists.{listed, cells, cellAt, put, grid};
@@ -11,19 +11,7 @@ ghost use Rattle.pairs.specs.Pairs.{pairsArea};
 ghost use Rattle.pairs.specs.Regions.{Area, Turned, Squaring, Summed, Rooted};
 ghost use Rattle.columns.specs.Columns.{pointsAt};
 
-// Cells that lie `step` apart, copied one behind the other to a place further on in the same list. Inner form, as all functions here.
-fn gather(area: &mut [f64], from: usize, step: usize, to: usize, count: usize)
-    requires { ⌜ (to + count ≤ length (now area)) × ((j : ℕ) → j < count → from + j * step < to) ⌝ }
-    ensures { λ _. ⌜ now (area .exit) ≡ put to count (now (area .entry)) (listed (λ j. cells (now (area .entry)) (from + j * step)) count) ⌝ }
-{
-    for j in 0..count {
-        let cell = from + j * step;
-        let at = to + j;
-        area[at] = area[cell];
-    }
-}
-
-// The root of each of `count` cells, further on in the same list.
+// The root of each of `count` cells, further on in the same list. Inner form, as all functions here.
 fn root_cells(area: &mut [f64], from: usize, to: usize, count: usize)
     requires { ⌜ (from + count ≤ to) × (to + count ≤ length (now area)) ⌝ }
     ensures { λ _. ⌜ now (area .exit) ≡ put to count (now (area .entry)) (listed (λ j. root (cells (now (area .entry)) (from + j))) count) ⌝ }
@@ -43,7 +31,7 @@ fn transpose(area: &mut [f64], m: usize)
     let second = m * m;
     for i in 0..m {
         let to = second + i * m;
-        gather(area, i, m, to, m);
+        lists::gather(area, i, m, to, m);
     }
 }
 
@@ -66,7 +54,7 @@ fn square_row(area: &mut [f64], m: usize, i: usize, sums: &mut [f64])
     squared_item(area, m, i, sums);
     let third = 2 * (m * m);
     let at = third + i * m;
-    gather(area, third + i, m, at, i);
+    lists::gather(area, third + i, m, at, i);
     let from = at + i;
     let end = at + m;
     lists::copy(sums, &mut area[from..end]);
@@ -100,7 +88,7 @@ fn pair_row(area: &mut [f64], m: usize, i: usize)
     let third = 2 * (m * m);
     let fourth = 3 * (m * m);
     let at = i * m;
-    gather(area, fourth + i, m, fourth + at, i);
+    lists::gather(area, fourth + i, m, fourth + at, i);
     root_cells(area, third + at + i, fourth + at + i, m - i);
 }
 

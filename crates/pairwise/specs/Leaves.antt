@@ -15,7 +15,7 @@ use Rattle.columns.specs.Pair.{pairAt}
 abbrev pub listsFit : ℕ → ℕ → ℕ → Bool
 listsFit m out floats = eqb out (m * m) && leb (workDoubles m) floats
 
--- the distances between the rows of an n by n list of points
+-- the distances between n points of n columns each, which lie one after the other
 unfoldable pub pairwiseDistances : List Float → ℕ → List Float → List Float → Worked
 pairwiseDistances points n out floats =
     worked (refusal (length points) n n (listsFit n (length out) (length floats)) 0 0) n (grid (pairAt (cellAt points n) n) n) out floats

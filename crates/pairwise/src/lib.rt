@@ -12,7 +12,7 @@ ghost use Rattle.pairs.specs.Regions.{Area};
 ghost use Rattle.pairwise.specs.Leaves.{listsFit, Fitting, pairwiseDistances, pairwiseDistancesThrough};
 use refusals::Answer;
 
-// The four areas of n by n points. Inner form.
+// The four areas of n points of n columns each. Inner form.
 fn point_pairs(points: &[f64], n: usize, area: &mut [f64])
     requires { ⌜ Area (now area) n × (length (now points) ≡ n * n) ⌝ }
     ensures { λ _. ⌜ now (area .exit) ≡ pairsArea (cellAt (now (points .entry)) n) n ⌝ }
@@ -30,11 +30,10 @@ fn hand_out(m: usize, out: &mut [f64], floats: &mut [f64])
     let pairs = 3 * (m * m);
     let end = pairs + m * m;
     lists::copy(&floats[pairs..end], out);
-    let work = 8 * (m * m) + 256 * m;
-    lists::fill(&mut floats[..work], 0.0);
+    refusals::wipe_doubles(m, floats);
 }
 
-// The pair distances of n by n points to `out`; the front part of `floats` is left zero. Inner form: the lists fit.
+// The pair distances of n points of n columns each to `out`; the front part of `floats` is left zero. Inner form: the lists fit.
 fn measure_points(points: &[f64], n: usize, out: &mut [f64], floats: &mut [f64])
     requires { ⌜ Fitting n (now out) (now floats) × (length (now points) ≡ n * n) ⌝ }
     ensures { λ _. ⌜ (now (out .exit) ≡ grid (pairAt (cellAt (now (points .entry)) n) n) n) × (now (floats .exit) ≡ wiped n (now (floats .entry))) ⌝ }
@@ -80,7 +79,7 @@ fn check_lists(
     refusals::check(cells, n, m, lists_fit(m, out, floats), bad, count)
 }
 
-// The distances between the rows of n by n points.
+// The distances between n points of n columns each.
 pub fn pairwise_distances(points: &[f64], n: usize, out: &mut [f64], floats: &mut [f64]) -> Answer
     ensures { λ r. ⌜ record { answer = refusalOf r; out = now (out .exit); floats = now (floats .exit) } ≡ pairwiseDistances (now (points .entry)) n (now (out .entry)) (now (floats .entry)) ⌝ }
 {

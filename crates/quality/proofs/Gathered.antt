@@ -7,7 +7,7 @@ use lib.ListN.{length, take, length-append, length-map}
 use lib.Seq.{take-at}
 use lib.Ieee.{Float}
 use Rattle.lists.specs.Lists.{cells}
-use Rattle.tstat.specs.Quality.{tstatOf}
+use Rattle.tstat.specs.Tstat.{tstatOf}
 use Rattle.quality.specs.Quality.{qualityOf}
 
 module _ (scores : List Float) (ms : List ℕ) {xs : List Float} (rest : List Float) (e : xs ≡ map (cells scores) ms) where

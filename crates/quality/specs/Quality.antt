@@ -6,7 +6,7 @@ use lib.ListN.{length}
 use lib.Ieee.{Float, lt, div, binary64}
 use Rattle.lists.specs.Lists.{cells}
 use Rattle.lists.specs.Sums.{counted, foldIf, sumIf, countIf}
-use Rattle.tstat.specs.Quality.{tstatOf, plainMean}
+use Rattle.tstat.specs.Tstat.{tstatOf, plainMean}
 use Rattle.partition.specs.Partition.{groupAt}
 
 -- the t-stat of a group: of its members' scores, in member order

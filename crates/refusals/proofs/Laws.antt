@@ -1,16 +1,15 @@
 -- What a call knows once nothing is refused, and what its lists are, refused or not.
 use Prim.Native.Nat.{ℕ, _+_, _*_, _<_, _≤_}
-use mathlib.Core.Path.{_≡_, refl, sym, _∙_, ap, subst}
-use mathlib.Core.Bool.{Bool, true, false, cond, _||_}
+use mathlib.Core.Path.{_≡_, refl, sym, _∙_, ap}
+use mathlib.Core.Bool.{Bool, true, false, _||_}
 use mathlib.Core.List.{List, _++_}
 use mathlib.Core.Logic.{by-cases}
 use native.Mathlib.Omega.{arith}
 use native.Mathlib.Decide.{decLt}
-use borrow.Author.Tests.{lt-ltb, ltb-false, eqb-true, eqb-false, eq-eqb, ne-eqb}
-use lib.Dec.{T, eqb, ltb}
-use lib.ListN.{length, drop}
+use borrow.Author.Tests.{lt-ltb, ltb-false, eqb-true, eq-eqb, ne-eqb}
+use lib.Dec.{eqb, ltb}
 use lib.Ieee.{Float}
-use Rattle.refusals.specs.Table.{numberOf, refusalOf, Refusal, none, refused, when, unless, refusal, after, Filled, filled, Worked, worked, wiped}
+use Rattle.refusals.specs.Table.{numberOf, refusalOf, Refusal, none, refused, when, unless, refusal, filled, worked, wiped}
 use Rattle.refusals.specs.declared.Answer.{Answer}
 use Rattle.refusals.specs.declared.Answer.the-variants.{Done, InvalidCorrelationMatrix, TooLarge, CellCount, ListLength, OutOfRange}
 use Rattle.lists.proofs.Tests.{impossible, neither, or-true}

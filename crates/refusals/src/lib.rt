@@ -1,9 +1,11 @@
-// What a call on lent lists answers, and the checks that every such call makes, in the table's order.
+// What a call on lent lists answers, the checks that every such call makes, in the table's order, and what it leaves in
+// its working list of doubles.
 ghost use mathlib.Core.Path.{_≡_};
 ghost use mathlib.Core.Bool.{false};
 ghost use Prim.Native.Nat.{_≤_, _<_, _*_};
 ghost use lib.Dec.{leb, eqb};
-ghost use Rattle.refusals.specs.Table.{numberOf, placeOf, refusalOf, refusal, workDoubles, workNumbers};
+ghost use lib.ListN.{length};
+ghost use Rattle.refusals.specs.Table.{numberOf, placeOf, refusalOf, refusal, workDoubles, wiped, workNumbers};
 
 // Done, or the first row of the table that applies.
 pub enum Answer {
@@ -71,6 +73,15 @@ pub fn has_numbers(length: usize, m: usize) -> bool
         return false;
     }
     320 * m <= length
+}
+
+// The front part of a working list of doubles for m names, zero. Inner form.
+pub fn wipe_doubles(m: usize, floats: &mut [f64])
+    requires { ⌜ (m ≤ 256) × (workDoubles m ≤ length (now floats)) ⌝ }
+    ensures { λ _. ⌜ now (floats .exit) ≡ wiped m (now (floats .entry)) ⌝ }
+{
+    let work = 8 * (m * m) + 256 * m;
+    lists::fill(&mut floats[..work], 0.0);
 }
 
 // The first row that applies: `cells` cells of a book of n columns, of which m rows are read, other lists that fit or

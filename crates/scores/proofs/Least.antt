@@ -1,6 +1,6 @@
 -- The least mean: one more group, groups that have no member, NaNs; and that a score needs the distances and the labels below n alone.
 use Prim.Native.Nat.{ℕ, zero, suc, _+_, _<_, _≤_}
-use mathlib.Core.Path.{_≡_, refl, sym, _∙_, ap, subst}
+use mathlib.Core.Path.{_≡_, refl, _∙_, ap, subst}
 use mathlib.Core.Bool.{Bool, true, false, cond, not, _&&_, _||_}
 use mathlib.Core.Logic.{⊎-elim}
 use native.Mathlib.Numerals.{add-one}
@@ -9,7 +9,7 @@ use native.Mathlib.Omega.{arith}
 use borrow.Author.Tests.{eq-eqb, ne-eqb}
 use lib.Dec.{T, eqb}
 use lib.Ieee.{Float, fin, inf, nan, isNan, ofInt, add, div, lt, binary64}
-use Rattle.lists.specs.Sums.{zero64, counted, foldIf, lesser}
+use Rattle.lists.specs.Sums.{zero64, counted, lesser}
 use Rattle.lists.proofs.Sums.{fold-same}
 use Rattle.scores.specs.Scores.{member, groupSum, groupCount, least, scoreOf, scoreFrom, silhouette}
 use Rattle.lists.proofs.Tests.{or-true}
@@ -60,16 +60,12 @@ lesser-number nan b h = rw (lesser-nan b) h
 lesser-number (inf s) b h = chosen (lt (inf s) b) (inf s) b refl h
 lesser-number (fin s m e) b h = chosen (lt (fin s m e) b) (fin s m e) b refl h
 
-passed : (t : Bool) (b y : Float) → isNan b ≡ false → isNan y ≡ false → isNan (cond t b y) ≡ false
-passed true b y h g = h
-passed false b y h g = g
-
 pub least-number : (s : ℕ → Float) (c : ℕ → ℕ) (own l : ℕ) → isNan (least s c own l) ≡ false
 unfolding least isNan
 least-number s c own zero = refl
 least-number s c own (suc l) =
     let h = least-number s c own l in
-    passed (eqb l own || eqb (c l) 0) (least s c own l) (lesser (div binary64 (s l) (counted (c l))) (least s c own l)) h
+    chosen (eqb l own || eqb (c l) 0) (least s c own l) (lesser (div binary64 (s l) (counted (c l))) (least s c own l)) h
     (lesser-number (div binary64 (s l) (counted (c l))) (least s c own l) h)
 
 -- -infinity over one, below each number; nothing is below it; and its score

@@ -15,8 +15,8 @@ use Rattle.draws.specs.Draws.{drawn, one}
 use Rattle.draws.proofs.Counting.{trials-some}
 use Rattle.draws.proofs.Bad.{Reads, Above, reads-map, then-reads, takes-bad}
 use Rattle.trials.specs.declared.Trial.{Trial}
-use Rattle.trials.specs.Trials.{lesserNumber, with, nextOf}
-use Rattle.trials.proofs.Bad.{limitBy, next-bad}
+use Rattle.trials.specs.Trials.{lesserNumber, with, limit, nextOf}
+use Rattle.trials.proofs.Bad.{next-bad}
 use Rattle.seeding.specs.Seeding.{centresOf, firstCentres, seeding}
 use Rattle.seeding.specs.Ranges.{weightTo, OutOfRange, first, trial}
 
@@ -51,11 +51,11 @@ record OfTrial (q : ℕ → ℕ → Float) (m t j : ℕ) (ws : List Float) (cs :
   which-few : which < t
   chosen : centresOf q m t turn ws cs at (drop at draws) ≡ drawn centres (drop (at + turn * t) draws)
   place : p ≡ at + turn * t + which
-  bad : limitBy (sumTo (weightTo q centres) m) m ≤ numbers draws p
+  bad : limit (sumTo (weightTo q centres) m) m ≤ numbers draws p
 
 module _ (q : ℕ → ℕ → Float) (m t : ℕ) (draws : List ℕ) (some : 0 < t) where
   -- a trial for the next centre
-  trial-next : (j : ℕ) (ws : List Float) (cs : List ℕ) → ws ≡ listed (weightTo q cs) m → (at p : ℕ) → Above (limitBy (sumTo (cells ws) m) m) at t draws p
+  trial-next : (j : ℕ) (ws : List Float) (cs : List ℕ) → ws ≡ listed (weightTo q cs) m → (at p : ℕ) → Above (limit (sumTo (cells ws) m) m) at t draws p
       → OfTrial q m t (suc j) ws cs at draws p
   unfolding centresOf
   trial-next j ws cs e at p b =
@@ -68,7 +68,7 @@ module _ (q : ℕ → ℕ → Float) (m t : ℕ) (draws : List ℕ) (some : 0 < 
         which-few = omega (arith, b .0, b .1);
         chosen = rw z refl;
         place = omega (arith, z, b .0);
-        bad = subst (λ (x : Float). limitBy x m ≤ numbers draws p) (total-is q m ws cs e) (b .2);
+        bad = subst (λ (x : Float). limit x m ≤ numbers draws p) (total-is q m ws cs e) (b .2);
       }
 
   -- a trial for a later one
@@ -93,7 +93,7 @@ module _ (q : ℕ → ℕ → Float) (m t : ℕ) (draws : List ℕ) (some : 0 < 
   unfolding centresOf
   centres-bad zero ws cs e at l = let z : at ≡ at + 0 * t = omega (arith, zero-mul t) in ap (λ (i : ℕ). drop i draws) z
   centres-bad (suc j) ws cs e at l =
-      then-reads draws (at + t) (at + suc j * t) (Above (limitBy (sumTo (cells ws) m) m) at t draws) (OfTrial q m t (suc j) ws cs at draws)
+      then-reads draws (at + t) (at + suc j * t) (Above (limit (sumTo (cells ws) m) m) at t draws) (OfTrial q m t (suc j) ws cs at draws)
       (nextOf q m t ws at (drop at draws)) (λ x rest. centresOf q m t j (listed (with q (cells ws) (x .pick)) m) (cs ++ (x .pick ∷ [])) (at + t) rest)
       (next-bad q m t some ws draws at (omega (arith, suc-mul j t)))
       (λ x d.
@@ -128,4 +128,4 @@ seeding-bad q m k draws at l =
         let is : firstCentres q m k (o .turn) at (drop at draws) ≡ drawn (o .centres) (drop (at + 1 + o .turn * trialsOf k) draws) = rw e (o .chosen) in
         subst (OutOfRange q m k at draws) (sym (o .place))
         (trial (o .turn) (o .which) (o .centres) (o .turn-few) (o .which-few) is
-        (subst (λ (i : ℕ). limitBy (sumTo (weightTo q (o .centres)) m) m ≤ numbers draws i) (o .place) (o .bad)))
+        (subst (λ (i : ℕ). limit (sumTo (weightTo q (o .centres)) m) m ≤ numbers draws i) (o .place) (o .bad)))

@@ -7,7 +7,7 @@ use lib.Ieee.{Float, nan, fin, add, mul, div, ofInt, lt, isNan}
 use Rattle.lists.specs.Sums.{sumTo, zero64}
 use Rattle.lists.specs.Lists.{listed, firstTo}
 use Rattle.draws.specs.Draws.{drawn, refused, takes}
-use Rattle.trials.specs.Trials.{firstOver, pickBy, bestOf, table}
+use Rattle.trials.specs.Trials.{firstOver, pickBy, bestTrial, table}
 use Rattle.seeding.specs.Seeding.{seeding, centresOf}
 
 one64 : Float
@@ -24,27 +24,27 @@ unknown = nan ∷ nan ∷ nan ∷ nan ∷ []
 
 -- a share of 0 passes over the centre, whose weight is 0
 share-of-zero : seeding (table apart 2) 2 2 0 (0 ∷ 0 ∷ 4503599627370496 ∷ []) ≡ drawn (0 ∷ 1 ∷ []) []
-unfolding apart one64 seeding centresOf bestOf takes firstOver pickBy firstTo listed sumTo add mul div ofInt lt isNan
+unfolding apart one64 seeding centresOf bestTrial takes firstOver pickBy firstTo listed sumTo add mul div ofInt lt isNan
 share-of-zero = refl
 
 -- no weight is left: index draws, and the first of two equal trials
 no-weight : seeding (table alike 2) 2 2 0 (1 ∷ 1 ∷ 0 ∷ 7 ∷ []) ≡ drawn (1 ∷ 1 ∷ []) (7 ∷ [])
-unfolding alike seeding centresOf bestOf takes firstOver pickBy firstTo listed sumTo add mul div ofInt lt isNan
+unfolding alike seeding centresOf bestTrial takes firstOver pickBy firstTo listed sumTo add mul div ofInt lt isNan
 no-weight = refl
 
 all-unknown : seeding (table unknown 2) 2 2 0 (0 ∷ 0 ∷ 1 ∷ []) ≡ drawn (0 ∷ 0 ∷ []) []
-unfolding unknown seeding centresOf bestOf takes firstOver pickBy firstTo listed sumTo add mul div ofInt lt isNan
+unfolding unknown seeding centresOf bestTrial takes firstOver pickBy firstTo listed sumTo add mul div ofInt lt isNan
 all-unknown = refl
 
 -- an index draw of 2, a share draw of 2 ^ 53, and an index draw of 2 in the second trial
 bad-index : seeding (table alike 2) 2 2 0 (2 ∷ 0 ∷ 0 ∷ []) ≡ refused 0
-unfolding alike seeding centresOf bestOf takes firstOver pickBy firstTo listed sumTo add mul div ofInt lt isNan
+unfolding alike seeding centresOf bestTrial takes firstOver pickBy firstTo listed sumTo add mul div ofInt lt isNan
 bad-index = refl
 
 bad-share : seeding (table apart 2) 2 2 5 (0 ∷ 9007199254740992 ∷ 0 ∷ []) ≡ refused 6
-unfolding apart one64 seeding centresOf bestOf takes firstOver pickBy firstTo listed sumTo add mul div ofInt lt isNan
+unfolding apart one64 seeding centresOf bestTrial takes firstOver pickBy firstTo listed sumTo add mul div ofInt lt isNan
 bad-share = refl
 
 bad-later : seeding (table alike 2) 2 2 5 (0 ∷ 1 ∷ 2 ∷ []) ≡ refused 7
-unfolding alike seeding centresOf bestOf takes firstOver pickBy firstTo listed sumTo add mul div ofInt lt isNan
+unfolding alike seeding centresOf bestTrial takes firstOver pickBy firstTo listed sumTo add mul div ofInt lt isNan
 bad-later = refl

@@ -13,7 +13,7 @@ use Rattle.draws.specs.declared.Stop.the-variants.{DrawOutOfRange}
 use Rattle.draws.specs.Counts.{trialsOf, seedingOf}
 use Rattle.draws.specs.Draws.{Drawn, drawn, refused, one}
 use Rattle.draws.proofs.Counting.{trials-some}
-use Rattle.draws.proofs.Taken.{Ends, behind, take-behind, then-ends, then-behind, ends-map, one-took}
+use Rattle.draws.proofs.Taken.{Ends, Among, behind, take-behind, then-ends, then-behind, ends-map, one-took}
 use Rattle.trials.specs.Trials.{with, nextOf}
 use Rattle.trials.proofs.Centring.{next-took, next-behind}
 use Rattle.seeding.specs.declared.Seeded.the-variants.{Done, Stopped}
@@ -28,12 +28,9 @@ below-snoc m c [] h b i l = below-one m c h i l
 below-snoc m c (x ∷ cs) h b zero l = b 0 (omega arith)
 below-snoc m c (x ∷ cs) h b (suc i) l = below-snoc m c cs h (λ j k. b (suc j) (omega arith)) i (omega arith)
 
--- what j centres more take of the draws, from place `at` on
+-- what holds of n centres, once c draws have been taken
 abbrev Took : ℕ → ℕ → ℕ → List ℕ → List ℕ → List ℕ → Type 0
 Took m n c ds cs rest = (length cs ≡ n) × Below m cs × (rest ≡ drop c ds) × (c ≤ length ds)
-
-abbrev Among : ℕ → ℕ → ℕ → Type 0
-Among at c p = (at ≤ p) × (p < at + c)
 
 module _ (q : ℕ → ℕ → Float) (m t : ℕ) (z : 0 < m) (some : 0 < t) where
   centres-took : (j : ℕ) (ws : List Float) (cs : List ℕ) (at : ℕ) (ds : List ℕ) → Below m cs

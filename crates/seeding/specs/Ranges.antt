@@ -16,7 +16,7 @@ use Rattle.seeding.specs.Seeding.{firstCentres}
 abbrev pub weightTo : (ℕ → ℕ → Float) → List ℕ → ℕ → Float
 weightTo q cs i = foldl (λ w c. lesserNumber w (q c i)) nan cs
 
--- The draw at a place of `draws` is out of range for the seeding of k centres, among m items, that starts at place `at` and comes to read it. Its first
+-- The draw at a place of `draws` is out of range for the seeding of k centres, among m items, that starts at place `at`. Its first
 -- draw is an index. The draws for a further centre, one for each trial, are shares if the total weight, with the centres cs chosen before, is above 0, and
 -- else indexes. An index is out of range if it is not below m, a share if it is not below 2 ^ 53.
 pub data OutOfRange (q : ℕ → ℕ → Float) (m k at : ℕ) (draws : List ℕ) : ℕ → Type 0 where

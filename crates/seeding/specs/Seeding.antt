@@ -38,23 +38,27 @@ answerOf next (drawn cs rest) = Done next
 answerOf next (refused p) = Stopped (DrawOutOfRange p)
 
 -- the list of centres after the call; where a draw was out of range only its length is known
-abbrev pub Centres : Drawn (List ℕ) → List ℕ → Type 0
-Centres (drawn cs rest) l = l ≡ cs
-Centres (refused p) l = Unit
+abbrev pub CentresAfter : Drawn (List ℕ) → List ℕ → Type 0
+CentresAfter (drawn cs rest) l = l ≡ cs
+CentresAfter (refused p) l = Unit
 
 -- every centre is an item
 abbrev pub Below : ℕ → List ℕ → Type 0
 Below m cs = (i : ℕ) → i < length cs → numbers cs i < m
 
--- a table of m items, k centres, and draws enough from `at` on
-pub record Ready (squares : List Float) (m k : ℕ) (draws : List ℕ) (at : ℕ) : Type 0 where
-  pub few : m ≤ 256
-  pub square : length squares ≡ m * m
+-- k centres among m items, and draws enough for them from `at` on
+pub record Seedable (m k : ℕ) (draws : List ℕ) (at : ℕ) : Type 0 where
   pub two : 2 ≤ k
   pub names : k ≤ m
   pub enough : at + seedingOf k ≤ length draws
 
+-- the same, with a table of the items
+pub record Ready (squares : List Float) (m k : ℕ) (draws : List ℕ) (at : ℕ) : Type 0 where
+  pub few : m ≤ 256
+  pub square : length squares ≡ m * m
+  pub asked : Seedable m k draws at
+
 -- what a call answers, and what it leaves
 pub record SeededBy (r : Drawn (List ℕ)) (next : ℕ) (answer : Seeded) (centres′ : List ℕ) : Type 0 where
   pub answer-is : answer ≡ answerOf next r
-  pub centres-are : Centres r centres′
+  pub centres-are : CentresAfter r centres′

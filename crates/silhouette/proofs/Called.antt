@@ -1,11 +1,11 @@
 -- The public call: what an accepted call knows, and what the working list holds.
 use Prim.Native.Nat.{ℕ, _+_, _*_, _<_, _≤_}
-use mathlib.Core.Path.{_≡_, refl, sym, _∙_, ap, subst}
-use mathlib.Core.Bool.{Bool, true, false, _&&_}
+use mathlib.Core.Path.{_≡_, sym, _∙_, ap}
+use mathlib.Core.Bool.{_&&_}
 use mathlib.Core.List.{List, _++_}
 use native.Mathlib.Omega.{arith}
 use borrow.Author.Tests.{eq-eqb, eqb-true, leb-true}
-use lib.Dec.{T, eqb, leb}
+use lib.Dec.{eqb, leb}
 use lib.ListN.{length, take, drop, replicate, length-append, length-drop}
 use lib.Seq.{length-take-le, take-at, drop-at}
 use lib.Ieee.{Float, nan}
@@ -45,15 +45,12 @@ module _ (pairs : List Float) (n : ℕ) (labels : List ℕ) (floats : List Float
   pub whole-length : length whole ≡ length floats
   whole-length = simp (length-append, length-drop) (omega (arith, turned-length))
 
-  pub work-length : workDoubles n ≡ length (take (workDoubles n) whole)
-  work-length = sym (length-take-le (workDoubles n) whole (rw whole-length room))
-
   -- zeros over the front
-  pub whole-wiped : {zeros : List Float} → zeros ≡ replicate (length (take (workDoubles n) whole)) zero64 → zeros ++ drop (workDoubles n) whole ≡ wiped n floats
+  pub whole-wiped : {left : List Float} → left ≡ wiped n whole → left ≡ wiped n floats
   whole-wiped e =
       let behind : drop (workDoubles n) whole ≡ drop (workDoubles n) floats =
       drop-behind (n * n) (workDoubles n) whole floats (omega arith) (drop-at turned (drop (n * n) floats) (n * n) turned-length) in
-      rw (e, ← work-length, behind)
+      e ∙ rw behind
 
   pub whole-scores : {out : List Float} → out ≡ scoresAcross (take (n * n) whole) labels → out ≡ listed (scoreAt pairs n labels) n
   unfolding scoreAt

@@ -35,8 +35,7 @@ fn score_checked(
     let count = n * n;
     lists::transpose(pairwise, n, &mut floats[..count]);
     score_across(&floats[..count], n, labels, scores);
-    let work = 8 * count + 256 * n;
-    lists::fill(&mut floats[..work], 0.0);
+    refusals::wipe_doubles(n, floats);
 }
 
 // Whether the lists have n labels, n scores and room to work in; asked of at most 256 items.

@@ -1,7 +1,7 @@
 -- What the checks give to the functions behind them, and the record of an answer.
 use Prim.Native.Nat.{ℕ, _+_, _<_, _≤_}
 use mathlib.Core.Path.{_≡_, sym, ap}
-use mathlib.Core.List.{List, [], _∷_}
+use mathlib.Core.List.{[], _∷_}
 use mathlib.Core.Logic.{by-cases}
 use native.Mathlib.Decide.{decLt}
 use native.Mathlib.Omega.{arith}
@@ -10,7 +10,7 @@ use lib.Ieee.{Float}
 use Rattle.refusals.specs.Table.{Refusal, none, numberOf, refusalOf}
 use Rattle.refusals.specs.declared.Answer.{Answer}
 use Rattle.refusals.proofs.Laws.{done-none}
-use Rattle.squared.specs.Leaves.{firstBad, Measured, measured}
+use Rattle.squared.specs.Leaves.{firstBad, measured}
 
 -- a place for a number that no bad number takes: they are all in range
 pub record Good (bad m i j : ℕ) : Type 0 where

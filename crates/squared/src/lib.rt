@@ -52,7 +52,7 @@ fn squared_between(book: &[f64], n: usize, rows: &[usize], i: usize, j: usize) -
     sum
 }
 
-// The first bad number: a row number, then i, then j.
+// The place of the first bad number among the rows, i and j; m + 2 if none.
 fn first_bad(bad: usize, m: usize, i: usize, j: usize) -> usize
     requires { ⌜ m ≤ 256 ⌝ }
     ensures { λ r. ⌜ r ≡ leaves.firstBad bad m i j ⌝ }

@@ -1,8 +1,8 @@
 -- What is done to an average is done to its value, where there is one.
 use Prim.Native.Nat.{ℕ}
-use mathlib.Core.Path.{_≡_, refl, sym, _∙_, ap}
+use mathlib.Core.Path.{_≡_, refl, _∙_}
 use mathlib.Core.Bool.{Bool, true, false, cond}
-use mathlib.Core.List.{List, [], _∷_, map}
+use mathlib.Core.List.{[], _∷_, map}
 use lib.Dec.{ltb}
 use lib.Ieee.{Float}
 use Rattle.stats.specs.Average.{Averaged, averaged, mostValues}

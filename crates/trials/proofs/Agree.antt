@@ -9,7 +9,7 @@ use Rattle.lists.specs.Sums.{sumTo}
 use Rattle.lists.proofs.Sums.{sum-same}
 use Rattle.draws.specs.Draws.{takes, one}
 use Rattle.draws.proofs.Taken.{one-took, takes-same, then-same}
-use Rattle.trials.specs.Trials.{running, lesserNumber, with, limit, pick, tried, better, trial, against, bestOf, nextOf}
+use Rattle.trials.specs.Trials.{running, lesserNumber, with, limit, pick, tried, better, trial, against, bestTrial, nextOf}
 use Rattle.trials.proofs.Picks.{pick-below}
 use Rattle.trials.proofs.Centring.{limit-some}
 
@@ -21,8 +21,8 @@ module _ (q q′ : ℕ → ℕ → Float) (m : ℕ) (z : 0 < m) (same : (p i : �
   trial-same : (w : ℕ → Float) (total : Float) (d : ℕ) → d < limit total m → trial q w total m d ≡ trial q′ w total m d
   trial-same w total d l = tried-same w (pick w total m d) (pick-below (running w) total m d z l)
 
-  best-same : (w : ℕ → Float) (total : Float) (more at : ℕ) (ds : List ℕ) → bestOf q w total m more at ds ≡ bestOf q′ w total m more at ds
-  unfolding bestOf
+  best-same : (w : ℕ → Float) (total : Float) (more at : ℕ) (ds : List ℕ) → bestTrial q w total m more at ds ≡ bestTrial q′ w total m more at ds
+  unfolding bestTrial
   best-same w total more at ds =
       then-same (λ d rest. (d < limit total m) × (rest ≡ drop 1 ds) × (1 ≤ length ds)) (λ p. (at ≤ p) × (p < at + 1)) (one (limit total m) at ds)
       (λ d rest. takes (limit total m) (against q w total m) more (trial q w total m d) (at + 1) rest)

@@ -16,7 +16,7 @@ use Rattle.trials.specs.declared.Trial.{Trial}
 use Rattle.trials.specs.declared.Tried.the-variants.{Best, Stopped}
 use Rattle.draws.specs.Stops.{drawOf}
 use Rattle.draws.specs.Draws.{Drawn, drawn, refused, takes, one, shares}
-use Rattle.trials.specs.Trials.{running, limit, trial, against, bestOf, nextOf, triedOf}
+use Rattle.trials.specs.Trials.{running, limit, trial, against, bestTrial, nextOf, triedOf}
 use Rattle.trials.proofs.Picks.{pick-below}
 use Rattle.draws.proofs.Taken.{Ends, behind, took, take-behind, then-ends, then-behind, ends-map, one-took, draw-value, draw-stopped}
 
@@ -34,13 +34,13 @@ limit-some total m z = limit-cond (lt zero64 total) m z
 module _ (q : ℕ → ℕ → Float) (w : ℕ → Float) (total : Float) (m : ℕ) where
   -- the first draw, at place i of a list, by its answer
   pub best-value : (more : ℕ) (draws : List ℕ) (i : ℕ) {d : ℕ} → i < length draws → drawOf (one (limit total m) i (drop i draws)) ≡ draw.Value d
-      → bestOf q w total m more i (drop i draws) ≡ takes (limit total m) (against q w total m) more (trial q w total m d) (i + 1) (drop (i + 1) draws)
-  unfolding bestOf
+      → bestTrial q w total m more i (drop i draws) ≡ takes (limit total m) (against q w total m) more (trial q w total m d) (i + 1) (drop (i + 1) draws)
+  unfolding bestTrial
   best-value more draws i l e = rw (draw-value (limit total m) draws i l e .1)
 
   pub best-stopped : (more : ℕ) (draws : List ℕ) (i : ℕ) {s : Stop} → i < length draws → drawOf (one (limit total m) i (drop i draws)) ≡ draw.Stopped s
-      → (bestOf q w total m more i (drop i draws) ≡ refused i) × (s ≡ DrawOutOfRange i)
-  unfolding bestOf
+      → (bestTrial q w total m more i (drop i draws) ≡ refused i) × (s ≡ DrawOutOfRange i)
+  unfolding bestTrial
   best-stopped more draws i l e = let v = draw-stopped (limit total m) draws i l e in (rw (v .1) refl, v .0)
 
   keeps : 0 < m → (b : Trial) (d : ℕ) → b .pick < m → d < limit total m → against q w total m b d .pick < m
@@ -48,8 +48,8 @@ module _ (q : ℕ → ℕ → Float) (w : ℕ → Float) (total : Float) (m : �
 
   -- it takes one draw and `more`, and picks an item
   pub best-took : 0 < m → (more at : ℕ) (ds : List ℕ)
-      → Ends (λ b rest. (b .pick < m) × (rest ≡ drop (1 + more) ds) × (1 + more ≤ length ds)) (λ p. (at ≤ p) × (p < at + (1 + more))) (bestOf q w total m more at ds)
-  unfolding bestOf
+      → Ends (λ b rest. (b .pick < m) × (rest ≡ drop (1 + more) ds) × (1 + more ≤ length ds)) (λ p. (at ≤ p) × (p < at + (1 + more))) (bestTrial q w total m more at ds)
+  unfolding bestTrial
   best-took z more at ds =
       then-ends (λ d rest. (d < limit total m) × (rest ≡ drop 1 ds) × (1 ≤ length ds)) (λ p. (at ≤ p) × (p < at + 1))
       (λ b rest. (b .pick < m) × (rest ≡ drop (1 + more) ds) × (1 + more ≤ length ds)) (λ p. (at ≤ p) × (p < at + (1 + more)))
@@ -64,8 +64,8 @@ module _ (q : ℕ → ℕ → Float) (w : ℕ → Float) (total : Float) (m : �
       (λ p k. (omega (arith, k .0), omega (arith, k .1))))
       (λ p k. (k .0, omega (arith, k .1)))
 
-  pub best-behind : 0 < m → (more at : ℕ) (p b : List ℕ) → 1 + more ≤ length p → bestOf q w total m more at (p ++ b) ≡ behind b (bestOf q w total m more at p)
-  unfolding bestOf
+  pub best-behind : 0 < m → (more at : ℕ) (p b : List ℕ) → 1 + more ≤ length p → bestTrial q w total m more at (p ++ b) ≡ behind b (bestTrial q w total m more at p)
+  unfolding bestTrial
   best-behind z more at p b l =
       rw (take-behind (limit total m) (λ s d. d) 1 0 at p b (omega arith))
       (then-behind (λ d rest. (d < limit total m) × (rest ≡ drop 1 p) × (1 ≤ length p)) (λ x. (at ≤ x) × (x < at + 1))

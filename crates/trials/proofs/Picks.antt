@@ -18,7 +18,7 @@ use Rattle.draws.specs.Draws.{shares, share}
 use Rattle.lists.proofs.Tests.{impossible}
 use Rattle.lists.proofs.Floats.{ne-self}
 use Rattle.lists.proofs.Sums.{sum-same}
-use Rattle.trials.specs.Trials.{running, firstOver, limit, pickBy, pick, lesserNumber, Summed}
+use Rattle.trials.specs.Trials.{running, firstOver, limit, pickBy, pick, lesserNumber, RunningSums}
 
 module _ (f : ℕ → Float) (x : Float) where
   -- f exceeds x at place i
@@ -52,11 +52,11 @@ module _ (f : ℕ → Float) (total : Float) (m d : ℕ) where
   pick-below z l = pick-cond (lt zero64 total) (firstOver f (mul binary64 (share d) total) m) (reached-below f (mul binary64 (share d) total) m z) l
 
 -- there is one for each item
-pub summed-length : (sums ws : List Float) → Summed sums ws → length sums ≡ length ws
+pub summed-length : (sums ws : List Float) → RunningSums sums ws → length sums ≡ length ws
 summed-length sums ws e = ap length e ∙ length-listed (running (cells ws)) (length ws)
 
 -- the pick by a list of the running weights
-pub pick-summed : (sums ws : List Float) (total : Float) (d : ℕ) → Summed sums ws → pickBy (cells sums) total (length sums) d ≡ pick (cells ws) total (length ws) d
+pub pick-summed : (sums ws : List Float) (total : Float) (d : ℕ) → RunningSums sums ws → pickBy (cells sums) total (length sums) d ≡ pick (cells ws) total (length ws) d
 unfolding pickBy firstOver
 pick-summed sums ws total d e =
     let x = mul binary64 (share d) total in

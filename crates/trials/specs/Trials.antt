@@ -57,14 +57,14 @@ abbrev pub against : (ℕ → ℕ → Float) → (ℕ → Float) → Float → �
 against q w total m b d = better b (trial q w total m d)
 
 -- the best of one trial and `more`; the first stands whatever its potential is
-unfoldable pub bestOf : (ℕ → ℕ → Float) → (ℕ → Float) → Float → ℕ → ℕ → ℕ → List ℕ → Drawn Trial
-bestOf q w total m more at ds =
+unfoldable pub bestTrial : (ℕ → ℕ → Float) → (ℕ → Float) → Float → ℕ → ℕ → ℕ → List ℕ → Drawn Trial
+bestTrial q w total m more at ds =
     andThen (one (limit total m) at ds)
     (λ d rest. takes (limit total m) (against q w total m) more (trial q w total m d) (at + 1) rest)
 
 -- the best of t trials, with the weights in ws, whose total is their sum by rising row
 abbrev pub nextOf : (ℕ → ℕ → Float) → ℕ → ℕ → List Float → ℕ → List ℕ → Drawn Trial
-nextOf q m t ws at ds = bestOf q (cells ws) (sumTo (cells ws) m) m (t - 1) at ds
+nextOf q m t ws at ds = bestTrial q (cells ws) (sumTo (cells ws) m) m (t - 1) at ds
 
 -- the squared distances from item p, in a table of m rows of m cells
 abbrev pub table : List Float → ℕ → ℕ → ℕ → Float
@@ -82,5 +82,5 @@ pub record Weighed (squares ws : List Float) : Type 0 where
   pub square : length squares ≡ length ws * length ws
 
 -- the running weights of ws, in a list
-abbrev pub Summed : List Float → List Float → Type 0
-Summed sums ws = sums ≡ listed (running (cells ws)) (length ws)
+abbrev pub RunningSums : List Float → List Float → Type 0
+RunningSums sums ws = sums ≡ listed (running (cells ws)) (length ws)

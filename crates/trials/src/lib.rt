@@ -6,7 +6,7 @@ ghost use Rattle.lists.specs.Lists.{cells};
 ghost use Rattle.lists.specs.Sums.{lesser, sumTo};
 ghost use Rattle.draws.specs.Draws.{takes};
 ghost use Rattle.trials.specs.Trials as spec;
-ghost use Rattle.trials.specs.Trials.{table, nextOf, triedOf, Weighed, Summed};
+ghost use Rattle.trials.specs.Trials.{table, nextOf, triedOf, Weighed, RunningSums};
 
 // A pick, with its potential: the total of the weights with it as a centre too.
 pub struct Trial {
@@ -36,7 +36,7 @@ pub fn lesser_number(a: f64, b: f64) -> f64
 // The running weight of each item, and the total.
 fn sum_weights(weights: &[f64], sums: &mut [f64]) -> f64
     requires { ⌜ length (now sums) ≡ length (now weights) ⌝ }
-    ensures { λ r. ⌜ (r ≡ sumTo (cells (now (weights .entry))) (length (now (weights .entry)))) × Summed (now (sums .exit)) (now (weights .entry)) ⌝ }
+    ensures { λ r. ⌜ (r ≡ sumTo (cells (now (weights .entry))) (length (now (weights .entry)))) × RunningSums (now (sums .exit)) (now (weights .entry)) ⌝ }
 {
     let m = weights.len();
     let mut sum = 0.0;
@@ -135,7 +135,7 @@ fn two_potentials(weights: &[f64], total: f64, a: &[f64], b: &[f64]) -> Potentia
 
 // What a draw picks, with its potential.
 fn try_draw(squares: &[f64], weights: &[f64], sums: &[f64], total: f64, d: u64) -> Trial
-    requires { ⌜ Weighed (now squares) (now weights) × Summed (now sums) (now weights) ⌝ }
+    requires { ⌜ Weighed (now squares) (now weights) × RunningSums (now sums) (now weights) ⌝ }
     requires { ⌜ d < spec.limit total (length (now weights)) ⌝ }
     ensures { λ r. ⌜ r ≡ spec.trial (table (now (squares .entry)) (length (now (weights .entry)))) (cells (now (weights .entry))) total (length (now (weights .entry))) d ⌝ }
 {
@@ -154,7 +154,7 @@ struct Two {
 }
 
 fn try_two(squares: &[f64], weights: &[f64], sums: &[f64], total: f64, c: u64, d: u64) -> Two
-    requires { ⌜ Weighed (now squares) (now weights) × Summed (now sums) (now weights) × (total ≡ sumTo (cells (now weights)) (length (now weights))) ⌝ }
+    requires { ⌜ Weighed (now squares) (now weights) × RunningSums (now sums) (now weights) × (total ≡ sumTo (cells (now weights)) (length (now weights))) ⌝ }
     requires { ⌜ (c < spec.limit total (length (now weights))) × (d < spec.limit total (length (now weights))) ⌝ }
     ensures { λ r. ⌜ (r .first ≡ spec.trial (table (now (squares .entry)) (length (now (weights .entry)))) (cells (now (weights .entry))) total (length (now (weights .entry))) c)
         × (r .second ≡ spec.trial (table (now (squares .entry)) (length (now (weights .entry)))) (cells (now (weights .entry))) total (length (now (weights .entry))) d) ⌝ }
@@ -200,7 +200,7 @@ fn last_trial(
     end: usize,
     b: Trial,
 ) -> Tried
-    requires { ⌜ Weighed (now squares) (now weights) × Summed (now sums) (now weights) × (total ≡ sumTo (cells (now weights)) (length (now weights))) ⌝ }
+    requires { ⌜ Weighed (now squares) (now weights) × RunningSums (now sums) (now weights) × (total ≡ sumTo (cells (now weights)) (length (now weights))) ⌝ }
     requires { ⌜ (end ≤ from + 1) × (end ≤ length (now draws)) ⌝ }
     ensures { λ r. ⌜ r ≡ triedOf (takes (spec.limit total (length (now (weights .entry))))
         (spec.against (table (now (squares .entry)) (length (now (weights .entry)))) (cells (now (weights .entry))) total (length (now (weights .entry)))) (end - from) b from (drop from (now (draws .entry)))) ⌝ }
@@ -228,7 +228,7 @@ fn later_trials(
     more: usize,
     first: Trial,
 ) -> Tried
-    requires { ⌜ Weighed (now squares) (now weights) × Summed (now sums) (now weights) × (total ≡ sumTo (cells (now weights)) (length (now weights))) ⌝ }
+    requires { ⌜ Weighed (now squares) (now weights) × RunningSums (now sums) (now weights) × (total ≡ sumTo (cells (now weights)) (length (now weights))) ⌝ }
     requires { ⌜ from + more ≤ length (now draws) ⌝ }
     ensures { λ r. ⌜ r ≡ triedOf (takes (spec.limit total (length (now (weights .entry))))
         (spec.against (table (now (squares .entry)) (length (now (weights .entry)))) (cells (now (weights .entry))) total (length (now (weights .entry)))) more first from (drop from (now (draws .entry)))) ⌝ }
@@ -268,7 +268,7 @@ fn first_trials(
     more: usize,
     c: u64,
 ) -> Tried
-    requires { ⌜ Weighed (now squares) (now weights) × Summed (now sums) (now weights) × (total ≡ sumTo (cells (now weights)) (length (now weights))) ⌝ }
+    requires { ⌜ Weighed (now squares) (now weights) × RunningSums (now sums) (now weights) × (total ≡ sumTo (cells (now weights)) (length (now weights))) ⌝ }
     requires { ⌜ (c < spec.limit total (length (now weights))) × (0 < more) × (from + more ≤ length (now draws)) ⌝ }
     ensures { λ r. ⌜ r ≡ triedOf (takes (spec.limit total (length (now (weights .entry))))
         (spec.against (table (now (squares .entry)) (length (now (weights .entry)))) (cells (now (weights .entry))) total (length (now (weights .entry)))) more

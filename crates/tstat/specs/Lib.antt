@@ -1,2 +1,2 @@
 -- The t-statistic and the plain mean of a list of scores.
-pub mod Quality
+pub mod Tstat

@@ -3,12 +3,12 @@ ghost use mathlib.Core.Path.{_≡_};
 ghost use lib.ListN.{length};
 ghost use Rattle.lists.specs.Lists.{cells};
 ghost use Rattle.stats.specs.Average.{averagedOf};
-ghost use Rattle.tstat.specs.Quality as quality;
+ghost use Rattle.tstat.specs.Tstat as spec;
 use stats::Average;
 
 // Mean over deviation, with the exception for a deviation of at most 1e-12.
 fn ratio(m: f64, s: f64) -> f64
-    ensures { λ r. ⌜ r ≡ quality.ratio m s ⌝ }
+    ensures { λ r. ⌜ r ≡ spec.ratio m s ⌝ }
 {
     if s <= 1e-12 {
         if m > 0.0 {
@@ -19,9 +19,9 @@ fn ratio(m: f64, s: f64) -> f64
     m / s
 }
 
-// The t-statistic of any number of values; the mean is worked out once. Inner form: no number of values is refused.
+// The t-statistic of any number of values: none is refused. The mean is worked out once.
 pub fn tstat_value(values: &[f64]) -> f64
-    ensures { λ r. ⌜ r ≡ quality.tstatOf (cells (now (values .entry))) (length (now (values .entry))) ⌝ }
+    ensures { λ r. ⌜ r ≡ spec.tstatOf (cells (now (values .entry))) (length (now (values .entry))) ⌝ }
 {
     if values.len() == 0 {
         return 0.0;
@@ -33,7 +33,7 @@ pub fn tstat_value(values: &[f64]) -> f64
 
 // Mean over population deviation; 0 of no value.
 pub fn tstat(values: &[f64]) -> Average
-    ensures { λ r. ⌜ averagedOf r ≡ quality.tstat (cells (now (values .entry))) (length (now (values .entry))) ⌝ }
+    ensures { λ r. ⌜ averagedOf r ≡ spec.tstat (cells (now (values .entry))) (length (now (values .entry))) ⌝ }
 {
     if 65536 < values.len() {
         return Average::TooMany;
@@ -41,16 +41,16 @@ pub fn tstat(values: &[f64]) -> Average
     Average::Value(tstat_value(values))
 }
 
-// The sum over the count of any number of values. Inner form: no number of values is refused.
+// The sum over the count of any number of values: none is refused.
 pub fn mean_of_value(values: &[f64]) -> f64
-    ensures { λ r. ⌜ r ≡ quality.plainMean (cells (now (values .entry))) (length (now (values .entry))) ⌝ }
+    ensures { λ r. ⌜ r ≡ spec.plainMean (cells (now (values .entry))) (length (now (values .entry))) ⌝ }
 {
     lists::sum_of(values) / lists::count_as_f64(values.len())
 }
 
 // The sum over the count, with no exception for equal values: three values of 0.1 give 0.10000000000000002.
 pub fn mean_of(values: &[f64]) -> Average
-    ensures { λ r. ⌜ averagedOf r ≡ quality.meanOf (cells (now (values .entry))) (length (now (values .entry))) ⌝ }
+    ensures { λ r. ⌜ averagedOf r ≡ spec.meanOf (cells (now (values .entry))) (length (now (values .entry))) ⌝ }
 {
     if 65536 < values.len() {
         return Average::TooMany;

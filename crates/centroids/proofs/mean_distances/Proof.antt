@@ -28,16 +28,16 @@ array-share-prefix-mean c =
     let m = length (c .before .before .before .before .before .before .before .before .args .labels .now) in
     front-fits (c .before .mean-row .last .1 .1 .1 .1 .0) (drop m (c .before .before .before .row-buffer .result)) m (listed-length _ _ (c .before .mean-row .ensures))
 
-slice-aggregate-squared-row : tie.Need-slice-aggregate-squared-row
-slice-aggregate-squared-row c =
+slice-aggregate-squared-tail : tie.Need-slice-aggregate-squared-tail
+slice-aggregate-squared-tail c =
     let m = length (c .before .before .before .before .before .before .before .before .before .args .labels .now) in
     sym (front-length (c .before .before .mean-row .last .1 .1 .1 .1 .0) (drop m (c .before .before .before .before .row-buffer .result)) m (listed-length _ _ (c .before .before .mean-row .ensures)))
 
-squared-row-requires : tie.Need-squared-row-requires
-squared-row-requires c κs =
+squared-tail-requires : tie.Need-squared-tail-requires
+squared-tail-requires c κs =
     let m = length (c .before .before .before .before .before .before .before .before .before .before .args .labels .now) in
     let w = front-length (c .before .before .before .mean-row .last .1 .1 .1 .1 .0) (drop m (c .before .before .before .before .before .row-buffer .result)) m (listed-length _ _ (c .before .before .before .mean-row .ensures)) in
-    record { few = rw w (c .before .before .before .before .before .before .before .before .before .before .pre .0 .few); square = rw w (listed-length _ _ (c .before .before .before .before .before .before .before .before .before .before .pre .0 .turned)); sums-length = c .before .before .before .before .before .before .before .before .before .before .pre .1 ∙ sym w }
+    record { few = rw w (c .before .before .before .before .before .before .before .before .before .before .pre .0 .few); square = rw w (listed-length _ _ (c .before .before .before .before .before .before .before .before .before .before .pre .0 .turned)); within = omega arith; sums-length = omega (arith, c .before .before .before .before .before .before .before .before .before .before .pre .1, w) }
 
 same-length : tie.Need-same-length
 same-length c = search needs
@@ -46,7 +46,7 @@ returns : tie.Need-returns
 returns c =
     let m = length (c .before .before .before .before .before .before .before .before .before .before .before .before .before .args .labels .now) in
     let x : ℕ → ℕ → Float = cellAt (c .before .before .before .before .before .before .before .before .before .before .before .before .before .args .points .now) m in
-    (rw (take-at (c .before .before .before .before .before .before .mean-row .last .1 .1 .1 .1 .0) (drop m (c .before .before .before .before .before .before .before .before .row-buffer .result)) m (listed-length _ _ (c .before .before .before .before .before .before .mean-row .ensures))) at (c .before .before .squared-row .ensures))
+    (rw (take-at (c .before .before .before .before .before .before .mean-row .last .1 .1 .1 .1 .0) (drop m (c .before .before .before .before .before .before .before .before .row-buffer .result)) m (listed-length _ _ (c .before .before .before .before .before .before .mean-row .ensures))) at (c .before .before .squared-tail .ensures))
     ∙ to-centroid x _ m (c .before .before .before .before .before .before .mean-row .ensures) (c .before .before .before .before .before .before .before .before .before .before .before .before .before .pre .0 .turned)
 
 pub mean-distances-spec : {M : Type 1} → statement M
@@ -58,7 +58,7 @@ mean-distances-spec =
     slice-aggregate-mean-row
     mean-row-requires
     array-share-prefix-mean
-    slice-aggregate-squared-row
-    squared-row-requires
+    slice-aggregate-squared-tail
+    squared-tail-requires
     same-length
     returns)

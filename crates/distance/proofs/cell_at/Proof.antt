@@ -5,7 +5,6 @@ use lib.ListN.{length}
 use Rattle.lists.specs.Lists.{numbers}
 use Rattle.lists.proofs.Grid.{cell-below, square-small}
 use Rattle.distance.specs.Distance.{through}
-use borrow.Author.Needs.{needs}
 use Rattle.distance.proofs.cell_at.Statement.{statement}
 use Rattle.distance.proofs.cell_at.Tie as tie
 

@@ -1,6 +1,6 @@
 use mathlib.Core.Path.{_∙_}
 use lib.Ieee.{ofBits}
-use Rattle.distance.specs.Distance.{distanceOf, clamped}
+use Rattle.distance.specs.Distance.{distanceOf}
 use borrow.Author.Needs.{needs}
 use Rattle.distance.proofs.distance.Statement.{statement}
 use Rattle.distance.proofs.distance.Tie as tie

@@ -1,6 +1,5 @@
 use mathlib.Core.Path.{refl}
 use lib.Ieee.{ofBits, div}
-use borrow.Author.Needs.{needs}
 use Rattle.lists.proofs.infinity.Statement.{statement}
 use Rattle.lists.proofs.infinity.Tie as tie
 

@@ -1,4 +1,3 @@
-use native.Mathlib.Omega.{arith}
 use borrow.Author.Needs.{needs}
 use Rattle.pairs.proofs.Regions.{second-made, third-made, third-turned, points-kept}
 use Rattle.pairs.proofs.squares_in.Statement.{statement}

@@ -1,13 +1,7 @@
 use Prim.Native.Nat.{_*_, _+_, _-_, ℕ}
 use mathlib.Core.Path.{_∙_, _≡_, ap}
-use mathlib.Core.List.{List, _++_}
 use native.Mathlib.Omega.{arith}
-use lib.ListN.{drop, length-take, replicate}
-use lib.Seq.{length-take-le}
-use lib.Ieee.{Float, ofBits}
 use borrow.Author.Needs.{needs}
-use Rattle.refusals.specs.Table.{workDoubles}
-use Rattle.lists.specs.Sums.{zero64}
 use Rattle.lists.specs.Lists.{part}
 use Rattle.pairwise.proofs.hand_out.Statement.{statement}
 use Rattle.pairwise.proofs.hand_out.Tie as tie
@@ -39,26 +33,8 @@ part-copy-end c = search needs
 copy-requires : tie.Need-copy-requires
 copy-requires c κs = search needs
 
-mul-work : tie.Need-mul-work
-mul-work c = omega arith
-
-mul-work-2 : tie.Need-mul-work-2
-mul-work-2 c = omega arith
-
-mul-work-3 : tie.Need-mul-work-3
-mul-work-3 c = omega arith
-
-add-work : tie.Need-add-work
-add-work c = omega arith
-
-slice-relend-prefix-fill : tie.Need-slice-relend-prefix-fill
-slice-relend-prefix-fill c = search needs
-
-slice-aggregate-fill : tie.Need-slice-aggregate-fill
-slice-aggregate-fill c = simp length-take (omega (arith, c .before .before .before .before .before .before .before .before .before .pre .room))
-
-fill-requires : tie.Need-fill-requires
-fill-requires c κs = search needs
+wipe-doubles-requires : tie.Need-wipe-doubles-requires
+wipe-doubles-requires c κs = search needs
 
 same-length : tie.Need-same-length
 same-length c = search needs
@@ -67,12 +43,11 @@ same-length-2 : tie.Need-same-length-2
 same-length-2 c = search needs
 
 returns : tie.Need-returns
-unfolding ofBits
 returns c =
     let m = c .before .before .before .before .before .before .before .before .before .before .before .before .args .m in
     let floats = c .before .before .before .before .before .before .before .before .before .before .before .before .args .floats .now in
     let k : 3 * (m * m) + m * m - 3 * (m * m) ≡ m * m = omega arith in
-    (c .before .before .before .before .before .before .copy .ensures ∙ ap (λ (j : ℕ). part (3 * (m * m)) j floats) k, ap (λ (x : List Float). x ++ drop (workDoubles m) floats) (c .before .before .fill .ensures ∙ ap (λ (j : ℕ). replicate j zero64) (length-take-le (workDoubles m) floats (c .before .before .before .before .before .before .before .before .before .before .before .before .pre .room))))
+    (c .before .before .before .before .before .before .copy .ensures ∙ ap (λ (j : ℕ). part (3 * (m * m)) j floats) k, c .before .before .wipe-doubles .ensures)
 
 pub hand-out-spec : {M : Type 1} → statement M
 hand-out-spec =
@@ -87,13 +62,7 @@ hand-out-spec =
     part-copy-start
     part-copy-end
     copy-requires
-    mul-work
-    mul-work-2
-    mul-work-3
-    add-work
-    slice-relend-prefix-fill
-    slice-aggregate-fill
-    fill-requires
+    wipe-doubles-requires
     same-length
     same-length-2
     returns)

@@ -22,7 +22,7 @@ use Rattle.seeding.proofs.seed.Tie as tie
 
 -- the first draw is in the list, and what it gives is an item
 inside : (s : tie.Start) → s .args .at < length (s .args .draws .now)
-inside s = omega (arith, s .pre .enough)
+inside s = omega (arith, s .pre .asked .enough)
 
 item : (s : tie.Start) {d : ℕ} → drawOf (indexDraw (length (s .args .weights .now)) (s .args .at) (drop (s .args .at) (s .args .draws .now))) ≡ Value d → d < length (s .args .weights .now)
 item s e = draw-value (length (s .args .weights .now)) (s .args .draws .now) (s .args .at) (inside s) e .0
@@ -40,7 +40,7 @@ enum-known-d : tie.Need-enum-known-d
 enum-known-d c = search needs
 
 slice-write-centres : tie.Need-slice-write-centres
-slice-write-centres c = omega (arith, c .before .before .before .before .before .before .before .before .pre .two)
+slice-write-centres c = omega (arith, c .before .before .before .before .before .before .before .before .pre .asked .two)
 
 row-of-requires : tie.Need-row-of-requires
 row-of-requires c κs =
@@ -71,8 +71,8 @@ more-centres-requires c κs =
     let p = c .before .before .before .before .before .before .before .before .before .before .before .before .before .before .before .before .before .pre in
     let e = c .before .before .before .before .before .before .copy .kept .1 .0 in
     let h : length (c .before .before .before .before .before .before .before .before .before .before .before .before .before .before .before .before .before .args .weights .now) ≤ length (c .before .before .before .row-buffer .result) = omega (arith, p .few, c .before .before .before .row-buffer .ensures) in (
-      (record { few = rw e (p .few); some = rw e (omega (arith, p .two, p .names)); square = rw e (p .square) }, length-take-le (length (c .before .before .before .before .before .before .before .before .before .before .before .before .before .before .before .before .before .args .weights .now)) (c .before .before .before .row-buffer .result) h ∙ sym e),
-      simp length-set (omega (arith, p .two), omega (arith, p .names, p .few), omega (arith, p .enough)),
+      (record { few = rw e (p .few); some = rw e (omega (arith, p .asked .two, p .asked .names)); square = rw e (p .square) }, length-take-le (length (c .before .before .before .before .before .before .before .before .before .before .before .before .before .before .before .before .before .args .weights .now)) (c .before .before .before .row-buffer .result) h ∙ sym e),
+      simp length-set (omega (arith, p .asked .two), omega (arith, p .asked .names, p .few), omega (arith, p .asked .enough)),
     )
 
 returns : tie.Need-returns
@@ -102,7 +102,7 @@ returns-2 c =
     let w : ws ≡ listed (q d) m = c .before .before .before .before .before .before .before .before .before .before .before .before .copy .ensures ∙ c .before .before .before .before .before .before .before .before .before .before .before .before .before .before .row-of .ensures ∙ listed-of nan (q d) m (row (a .squares .now) m d) (first-row s d (item s v)) (λ i l. refl) in
     let n : length ws ≡ m = c .before .before .before .before .before .before .before .before .before .before .before .before .copy .kept .1 .0 in
     let l : length cs ≡ k = length-set (a .centres .now) 0 d in
-    let t : take 1 cs ≡ d ∷ [] = take-suc-set (a .centres .now) 0 d (omega (arith, s .pre .two)) in
+    let t : take 1 cs ≡ d ∷ [] = take-suc-set (a .centres .now) 0 d (omega (arith, s .pre .asked .two)) in
     let e : centresOf (table (a .squares .now) (length ws)) (length ws) (trialsOf (length cs)) (length cs - 1) ws (take 1 cs) (a .at + 1) (drop (a .at + 1) (a .draws .now)) ≡ seeding q m k (a .at) (drop (a .at) (a .draws .now)) =
     rw (n, l, t, w) (sym (seeding-value q m k (a .at) (a .draws .now) (inside s) v)) in
     let u : a .at + 1 + (length cs - 1) * trialsOf (length cs) ≡ a .at + seedingOf k = rw l (omega arith) in

@@ -3,10 +3,9 @@ use mathlib.Core.Path.{_∙_, sym}
 use native.Mathlib.Omega.{arith}
 use lib.ListN.{length}
 use lib.Seq.{length-take-le}
-use lib.Ieee.{ofBits}
 use borrow.Author.Needs.{needs}
 use Rattle.lists.specs.Lists.{numbers}
-use Rattle.silhouette.proofs.Called.{front-length, front-shape, whole-scores, whole-wiped, work-length}
+use Rattle.silhouette.proofs.Called.{front-length, front-shape, whole-scores, whole-wiped}
 use Rattle.silhouette.proofs.score_checked.Statement.{statement}
 use Rattle.silhouette.proofs.score_checked.Tie as tie
 
@@ -36,23 +35,8 @@ score-across-requires c κs =
     let below : (i : ℕ) → i < length (c .before .before .before .before .before .before .before .before .before .before .args .labels .now) → numbers (c .before .before .before .before .before .before .before .before .before .before .args .labels .now) i < c .before .before .before .before .before .before .before .before .before .before .args .n = λ i b. c .before .before .before .before .before .before .before .before .before .before .pre .1 i (omega (arith, c .before .before .before .before .before .before .before .before .before .before .pre .0 .3)) in
     (s, (below, (sym (c .before .before .before .before .before .before .before .before .before .before .pre .0 .3), c .before .before .before .before .before .before .before .before .before .before .pre .0 .4 ∙ sym (c .before .before .before .before .before .before .before .before .before .before .pre .0 .3))))
 
-mul-work : tie.Need-mul-work
-mul-work c = search needs
-
-mul-work-2 : tie.Need-mul-work-2
-mul-work-2 c = search needs
-
-add-work : tie.Need-add-work
-add-work c = search needs
-
-slice-relend-prefix-fill : tie.Need-slice-relend-prefix-fill
-slice-relend-prefix-fill c = search needs
-
-slice-aggregate-fill : tie.Need-slice-aggregate-fill
-slice-aggregate-fill c = work-length (c .before .before .before .before .before .before .before .before .before .before .before .before .before .before .args .pairwise .now) (c .before .before .before .before .before .before .before .before .before .before .before .before .before .before .args .n) (c .before .before .before .before .before .before .before .before .before .before .before .before .before .before .args .labels .now) (c .before .before .before .before .before .before .before .before .before .before .before .before .before .before .args .floats .now) (c .before .before .before .before .before .before .before .before .before .before .before .before .before .before .pre .0 .3) (c .before .before .before .before .before .before .before .before .before .before .before .before .before .before .pre .0 .5) (c .before .before .before .before .before .before .before .before .transpose .ensures)
-
-fill-requires : tie.Need-fill-requires
-fill-requires c κs = search needs
+wipe-doubles-requires : tie.Need-wipe-doubles-requires
+wipe-doubles-requires c κs = search needs
 
 same-length : tie.Need-same-length
 same-length c = search needs
@@ -61,10 +45,9 @@ same-length-2 : tie.Need-same-length-2
 same-length-2 c = search needs
 
 returns : tie.Need-returns
-unfolding ofBits
 returns c = (
   whole-scores (c .before .before .before .before .before .before .before .before .before .before .before .before .before .before .before .before .before .args .pairwise .now) (c .before .before .before .before .before .before .before .before .before .before .before .before .before .before .before .before .before .args .n) (c .before .before .before .before .before .before .before .before .before .before .before .before .before .before .before .before .before .args .labels .now) (c .before .before .before .before .before .before .before .before .before .before .before .before .before .before .before .before .before .args .floats .now) (c .before .before .before .before .before .before .before .before .before .before .before .before .before .before .before .before .before .pre .0 .3) (c .before .before .before .before .before .before .before .before .before .before .before .before .before .before .before .before .before .pre .0 .5) (c .before .before .before .before .before .before .before .before .before .before .before .transpose .ensures) (c .before .before .before .before .before .before .score-across .ensures),
-  whole-wiped (c .before .before .before .before .before .before .before .before .before .before .before .before .before .before .before .before .before .args .pairwise .now) (c .before .before .before .before .before .before .before .before .before .before .before .before .before .before .before .before .before .args .n) (c .before .before .before .before .before .before .before .before .before .before .before .before .before .before .before .before .before .args .labels .now) (c .before .before .before .before .before .before .before .before .before .before .before .before .before .before .before .before .before .args .floats .now) (c .before .before .before .before .before .before .before .before .before .before .before .before .before .before .before .before .before .pre .0 .3) (c .before .before .before .before .before .before .before .before .before .before .before .before .before .before .before .before .before .pre .0 .5) (c .before .before .before .before .before .before .before .before .before .before .before .transpose .ensures) (c .before .before .fill .ensures),
+  whole-wiped (c .before .before .before .before .before .before .before .before .before .before .before .before .before .before .before .before .before .args .pairwise .now) (c .before .before .before .before .before .before .before .before .before .before .before .before .before .before .before .before .before .args .n) (c .before .before .before .before .before .before .before .before .before .before .before .before .before .before .before .before .before .args .labels .now) (c .before .before .before .before .before .before .before .before .before .before .before .before .before .before .before .before .before .args .floats .now) (c .before .before .before .before .before .before .before .before .before .before .before .before .before .before .before .before .before .pre .0 .3) (c .before .before .before .before .before .before .before .before .before .before .before .before .before .before .before .before .before .pre .0 .5) (c .before .before .before .before .before .before .before .before .before .before .before .transpose .ensures) (c .before .before .wipe-doubles .ensures),
 )
 
 pub score-checked-spec : {M : Type 1} → statement M
@@ -78,12 +61,7 @@ score-checked-spec =
     slice-reshare-prefix-score-across
     slice-aggregate-score-across
     score-across-requires
-    mul-work
-    mul-work-2
-    add-work
-    slice-relend-prefix-fill
-    slice-aggregate-fill
-    fill-requires
+    wipe-doubles-requires
     same-length
     same-length-2
     returns)

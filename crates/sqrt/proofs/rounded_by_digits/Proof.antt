@@ -1,6 +1,5 @@
 -- `sqrt::rounded_by_digits` meets its contract, by `of-floor` of `proofs/Nearby.antt`. Assumes nothing.
-use mathlib.Core.Path.{sym, subst}
-use Prim.Native.Nat.{ℕ, _*_, _^_, _<_}
+use Prim.Native.Nat.{_*_, _^_, _<_}
 use native.Mathlib.Omega.{arith}
 use borrow.Author.Needs.{needs}
 use Rattle.sqrt.proofs.Whole.{sq-lt-back}

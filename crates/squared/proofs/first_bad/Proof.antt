@@ -1,6 +1,5 @@
 use native.Mathlib.Omega.{arith}
 use borrow.Author.Tests.{le-leb, le-ltb, lt-leb, lt-ltb}
-use borrow.Author.Needs.{needs}
 use Rattle.squared.specs.Leaves.{firstBad}
 use Rattle.squared.proofs.first_bad.Statement.{statement}
 use Rattle.squared.proofs.first_bad.Tie as tie

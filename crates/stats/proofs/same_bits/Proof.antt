@@ -1,6 +1,5 @@
 use Rattle.lists.proofs.Floats.{number, finite-number}
 use Rattle.stats.proofs.Floats.{same-bits-nan, same-bits-number}
-use borrow.Author.Needs.{needs}
 use Rattle.stats.proofs.same_bits.Statement.{statement}
 use Rattle.stats.proofs.same_bits.Tie as tie
 use Rattle.stats.proofs.same_bits.Reads as reads

@@ -1,5 +1,5 @@
 use borrow.Author.Needs.{needs}
-use Rattle.tstat.specs.Quality.{plainMean}
+use Rattle.tstat.specs.Tstat.{plainMean}
 use Rattle.tstat.proofs.mean_of_value.Statement.{statement}
 use Rattle.tstat.proofs.mean_of_value.Tie as tie
 

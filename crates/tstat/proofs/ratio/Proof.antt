@@ -1,6 +1,6 @@
 use lib.Ieee.{ofBits}
 use borrow.Author.Needs.{needs}
-use Rattle.tstat.specs.Quality.{ratio}
+use Rattle.tstat.specs.Tstat.{ratio}
 use Rattle.tstat.proofs.ratio.Statement.{statement}
 use Rattle.tstat.proofs.ratio.Tie as tie
 

@@ -2,7 +2,7 @@ use lib.Ieee.{ofBits}
 use borrow.Author.Tests.{eq-eqb, ne-eqb}
 use borrow.Author.Needs.{needs}
 use Rattle.stats.specs.Average.{varianceOf}
-use Rattle.tstat.specs.Quality.{ratio, tstatOf}
+use Rattle.tstat.specs.Tstat.{ratio, tstatOf}
 use Rattle.tstat.proofs.tstat_value.Statement.{statement}
 use Rattle.tstat.proofs.tstat_value.Tie as tie
 

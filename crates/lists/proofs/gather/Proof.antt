@@ -4,17 +4,17 @@ use native.Mathlib.Omega.{arith}
 use lib.ListN.{length, length-set, set, take}
 use lib.Ieee.{nan}
 use borrow.Author.Needs.{needs}
 use Rattle.lists.specs.Lists.{cells}
 use Rattle.lists.proofs.Parts.{getD-front}
 use Rattle.lists.proofs.Areas.{stores, stores-kept, stores-more, stores-put}
-use Rattle.pairs.proofs.gather.Statement.{statement}
-use Rattle.pairs.proofs.gather.Tie as tie
+use Rattle.lists.proofs.gather.Statement.{statement}
+use Rattle.lists.proofs.gather.Tie as tie
 
 abbrev Inv-loop : tie.InvT-loop
-Inv-loop area₀ from step to count j₀ area j = (j ≤ count) × (length area ≡ length area₀) × (area ≡ stores to (λ k. cells area₀ (from + k * step)) j area₀)
+Inv-loop xs₀ from step to count j₀ xs j = (j ≤ count) × (length xs ≡ length xs₀) × (xs ≡ stores to (λ k. cells xs₀ (from + k * step)) j xs₀)
 
 abbrev μ-loop : tie.MeasureT-loop
-μ-loop area₀ from step to count j₀ area j = count - j
+μ-loop xs₀ from step to count j₀ xs j = count - j
 
 loop-holds : tie.Need-loop-holds Inv-loop μ-loop
 unfolding stores
@@ -29,17 +29,17 @@ add-cell c = omega (arith, c .before .before .pre .1 (c .before .loop .j) (c .lo
 add-at : tie.Need-add-at Inv-loop μ-loop
 add-at c = omega arith
 
-mul-area : tie.Need-mul-area Inv-loop μ-loop
-mul-area c = omega (arith, c .before .before .pre .1 (c .before .loop .j) (c .loop-test .taken))
+mul-xs : tie.Need-mul-xs Inv-loop μ-loop
+mul-xs c = omega (arith, c .before .before .pre .1 (c .before .loop .j) (c .loop-test .taken))
 
-slice-read-area : tie.Need-slice-read-area Inv-loop μ-loop
-slice-read-area c = omega (arith, c .before .before .before .pre .1 (c .before .before .loop .j) (c .before .loop-test .taken))
+slice-read-xs : tie.Need-slice-read-xs Inv-loop μ-loop
+slice-read-xs c = omega (arith, c .before .before .before .pre .1 (c .before .before .loop .j) (c .before .loop-test .taken))
 
-mul-area-2 : tie.Need-mul-area-2 Inv-loop μ-loop
-mul-area-2 c = omega arith
+mul-xs-2 : tie.Need-mul-xs-2 Inv-loop μ-loop
+mul-xs-2 c = omega arith
 
-slice-write-area : tie.Need-slice-write-area Inv-loop μ-loop
-slice-write-area c = omega arith
+slice-write-xs : tie.Need-slice-write-xs Inv-loop μ-loop
+slice-write-xs c = omega arith
 
 add-j : tie.Need-add-j Inv-loop μ-loop
 add-j c = omega arith
@@ -52,9 +52,9 @@ loop-again c =
     let a = c .before .before .before .args in
     let l = c .before .before .loop in
     let low = c .before .before .before .pre .1 (l .j) (c .before .loop-test .taken) in
-    let kept : take (a .to) (l .area) ≡ take (a .to) (a .area .now) = stores-kept _ _ _ _ (l .inv .2) in
-    let e = getD-front (a .to) (a .from + l .j * a .step) (l .area) (a .area .now) nan low kept in
-    (search needs, simp length-set (l .inv .1), ap (set (l .area) (a .to + l .j)) e ∙ stores-more _ _ _ _ (l .inv .2))
+    let kept : take (a .to) (l .xs) ≡ take (a .to) (a .xs .now) = stores-kept _ _ _ _ (l .inv .2) in
+    let e = getD-front (a .to) (a .from + l .j * a .step) (l .xs) (a .xs .now) nan low kept in
+    (search needs, simp length-set (l .inv .1), ap (set (l .xs) (a .to + l .j)) e ∙ stores-more _ _ _ _ (l .inv .2))
 
 same-length : tie.Need-same-length Inv-loop μ-loop
 same-length c = search needs
@@ -74,10 +74,10 @@ gather-spec =
     mul-cell
     add-cell
     add-at
-    mul-area
-    slice-read-area
-    mul-area-2
-    slice-write-area
+    mul-xs
+    slice-read-xs
+    mul-xs-2
+    slice-write-xs
     add-j
     loop-less
     loop-again
