@@ -8,6 +8,7 @@
 #   SOURCES=dir bash harness/grouping/run.sh time [RUNS]
 #   SOURCES=dir bash harness/grouping/run.sh count [NAMES]
 #   SOURCES=dir bash harness/grouping/run.sh record > crates/replay_runs/stdin
+#   SOURCES=dir bash harness/grouping/run.sh record-kinds > crates/replay_runs/kinds.txt
 #   SOURCES=dir bash harness/grouping/run.sh vectors
 #   SOURCES=dir bash harness/grouping/run.sh texts [SEED] [TEXTS]
 #   SOURCES=dir bash harness/grouping/run.sh record-texts > crates/texts/stdin
@@ -15,7 +16,7 @@
 # WORK is where all is built (target/harness); LIBRARIES the archives to link instead of those that `rt staticlib` writes of `exports` and
 # `harness_exports`; PROGRAM the grouping program to run instead of the one that `rt check grouping` writes. `count` takes valgrind.
 set -euo pipefail
-case ${1:-} in runs | statistics | stack | time | count | record | vectors | texts | record-texts) ;; *) sed -n '2,17s/^# //p' "$0" && exit 2 ;; esac
+case ${1:-} in runs | statistics | stack | time | count | record | record-kinds | vectors | texts | record-texts) ;; *) sed -n '2,18s/^# //p' "$0" && exit 2 ;; esac
 cd "$(dirname "${BASH_SOURCE[0]}")/../.."
 work=${WORK:-target/harness}
 mkdir -p "$work"
@@ -28,9 +29,9 @@ build() {
   (cd "$work/oracle" && cargo build -q --release --manifest-path "$work/grouping/Cargo.toml" --bin "$1" >&2)
 }
 case $1 in
-  record)
+  record | record-kinds)
     build record
-    exec "$work/build/release/record"
+    exec "$work/build/release/record" ${1#record-}
     ;;
   vectors)
     build vectors

@@ -6,7 +6,7 @@ use lib.Dec.{T}
 use lib.Ieee.{Float, binary64, fits}
 use Rattle.bits.specs.Bits.{doubleOf, bitsOf}
 
--- the pattern of infinity, and the pattern that every NaN has; a pattern without its sign is what is left of it by 2 ^ 63
+-- the pattern of infinity, and the pattern that every NaN has; a pattern without its sign is its remainder by 2 ^ 63
 abbrev pub infinityBits : ℕ
 infinityBits = 0x7ff0_0000_0000_0000
 

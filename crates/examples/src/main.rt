@@ -2,14 +2,17 @@
 // Standard input has one word a line, 16 hex digits. A case is eight words (leaf, n or ddof, the lengths of the two input
 // lists, of the output and of the working list, two items), the two lists, then the expected number, place, count of
 // values and values. harness/vectors.py writes the cases from definitions of its own, and specs/Cases.antt says when one
-// is answered as expected.
-ghost use Prim.Native.Nat.{_<_, _≤_};
+// is answered as expected. For a case that differs the program prints the number, place and count of values, as expected
+// and as found, then the case's number from 1, its leaf as the kind, and the words from which to which it stands. Where
+// only the working list is not as it must be, the line starts with the case's number.
+ghost use Prim.Native.Nat.{_+_, _<_, _≤_};
 ghost use mathlib.Core.Path.{_≡_};
+ghost use mathlib.Core.Bool.{_&&_};
 ghost use lib.ListN.{length, take, replicate};
 ghost use Rattle.refusals.specs.Table.{refusalOf};
 ghost use Rattle.stats.specs.Average.{averagedOf};
 ghost use Rattle.squared.specs.Leaves.{measuredOf};
-ghost use Rattle.words.specs.Words.{seven, doublesFrom, wordsFrom};
+ghost use Rattle.words.specs.Words.{seven, doublesFrom, wordsFrom, sameNumbers, sameDoubles};
 ghost use Rattle.examples.specs.Cases.{caseAt, averageOf, measuredBy, firstRoot, half, valueOf, listOf, namesOf, sameOutcome, rightValue, rightLeaf, rightLists, rightCase, countsIn};
 use refusals::Answer;
 use squared::Squared;
@@ -202,16 +205,25 @@ fn names_of(c: Case) -> usize
     c.n
 }
 
+// Whether the text has these numbers at `expected`, and the patterns of these values behind the third.
+fn same_values(text: &[u8], expected: usize, answer: &[usize], values: &[f64]) -> bool
+    requires { ⌜ expected ≤ 20296 ⌝ }
+    ensures { λ r. ⌜ r ≡ sameNumbers (now (text .entry)) expected (now (answer .entry)) && sameDoubles (now (text .entry)) (expected + 3) (now (values .entry)) ⌝ }
+{
+    if !words::same_numbers(text, expected, answer) {
+        return false;
+    }
+    words::same_doubles(text, expected + 3, values)
+}
+
 // Whether the text has this answer's number and place, the count of these values and their patterns at `expected`.
 fn same_outcome(text: &[u8], expected: usize, a: Answer, values: &[f64]) -> bool
     requires { ⌜ expected ≤ 20296 ⌝ }
     ensures { λ r. ⌜ r ≡ sameOutcome (now (text .entry)) expected (refusalOf a) (now (values .entry)) ⌝ }
 {
     let answer = [refusals::number_of(a), refusals::place_of(a), values.len()];
-    if !words::same_numbers(text, expected, &answer) {
-        return false;
-    }
-    words::same_doubles(text, expected + 3, values)
+    let right = same_values(text, expected, &answer, values);
+    words::shown(right, text, expected, &answer)
 }
 
 // Whether a leaf that answers one value or none answers what is expected.
@@ -300,7 +312,7 @@ fn run(text: &[u8]) -> Counts
     while at < words {
         let c = read_case(text, at);
         let right = right_case(text, at, c);
-        counts = words::counted(counts, right, at, c.leaf);
+        counts = words::counted(counts, right, c.leaf, at, c.next, words);
         at = c.next;
     }
     counts
@@ -310,5 +322,5 @@ fn main() {
     let mut text = words::text_buffer();
     let n = io::read_full(0, &mut text);
     let counts = run(&text[..n]);
-    words::summary(counts);
+    words::summary(counts, n, text.len());
 }

@@ -1,11 +1,22 @@
 // Reads a book, its repeats and its draws from standard input and prints its grouping, or the number by which it is refused.
 // crates/grouping_text/specs/Program.antt says what is printed for which text.
+ghost use Prim.Native.Nat.{_<_};
+ghost use lib.ListN.{length};
 
-// A text of more than 22,990 bytes is not in the layout, so what the buffer does not take changes nothing.
 fn main() {
     let mut text = io::large_buffer();
-    let n = io::read_full(0, &mut text);
-    respond(&text[..n]);
+    answer_input(&mut text);
+}
+
+// Reads a text into `room` and prints the answer to it. A text of more than 22,990 bytes is not in the layout, and `room` takes
+// more than that, so what it does not take changes nothing.
+// If a read fails the text ends there: it is answered as far as it was read, which is refused by 11 unless it is whole. If a
+// write fails the rest is not printed, and the program ends.
+fn answer_input(room: &mut [u8])
+    requires { ⌜ 22990 < length (now room) ⌝ }
+{
+    let n = io::read_full(0, room);
+    respond(&room[..n]);
 }
 
 // Prints the answer to a text.

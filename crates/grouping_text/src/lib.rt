@@ -152,7 +152,8 @@ fn group(book: &[f64], n: usize, repeats: usize, draws: &[u64], out: &mut [u8]) 
     )
 }
 
-// Writes what the grouping program prints for a text to the front of `out`, which has room for at least 1,024 bytes; else it is as it was.
+// Writes what the grouping program prints for a text to the front of `out`, which has room for at least 1,024 bytes; a shorter
+// one is refused by 6 and kept.
 pub fn answer_to(text: &[u8], out: &mut [u8]) -> Written
     ensures { λ r. ⌜ record { refused = refusalOf r; count = bytesOf r; out = now (out .exit) }
         ≡ writtenOf (refusalFits (now (out .entry))) (programOf (now (text .entry))) (now (out .entry)) ⌝ }

@@ -1,9 +1,12 @@
 // Runs cases of the check of a book in whole millionths, and counts those that are answered otherwise than expected.
 // Standard input has one word a line, 16 hex digits. A case is the rows, the columns, the count of cells, the cells in
 // two's complement, and the expected number and place. harness/intake.py works the cases out, and specs/Cases.antt says
-// when one is answered as expected. Two books too long for the text, of 256 and of 257 names, are made in place.
+// when one is answered as expected. For a case that differs the program prints the number and place, as expected and as
+// found, then the case's number from 1 and the words from which to which it stands.
+// Two books too long for the text, of 256 and of 257 names, are made in place.
 ghost use Prim.Native.Nat.{_*_, _<_, _≤_};
 ghost use mathlib.Core.Path.{_≡_};
+ghost use mathlib.Core.List.{[], _∷_};
 ghost use lib.ListN.{length};
 ghost use Rattle.intake.specs.Intake.{refusalOf, intakeOf};
 ghost use Rattle.intake_cases.specs.Cases.{signedOf, signedFrom, caseAt, sameAnswer, rightCase, countsIn, madeCell, madeBook};
@@ -69,12 +72,27 @@ fn read_case(text: &[u8], at: usize) -> Case
     }
 }
 
+// The answer's number and place.
+fn answer_of(a: Intake) -> [usize; 2]
+    ensures { λ r. ⌜ r ≡ refusalOf a .number ∷ refusalOf a .place ∷ [] ⌝ }
+{
+    [intake::number_of(a), intake::place_of(a)]
+}
+
 // Whether the text has this answer's number and place at `expected`.
 fn same_answer(text: &[u8], expected: usize, a: Intake) -> bool
     ensures { λ r. ⌜ r ≡ sameAnswer (now (text .entry)) expected (refusalOf a) ⌝ }
 {
-    let answer = [intake::number_of(a), intake::place_of(a)];
+    let answer = answer_of(a);
     words::same_numbers(text, expected, &answer)
+}
+
+// Whether a case is right, as handed in. If it is not, prints these two, as expected and as found.
+fn shown_answer(right: bool, text: &[u8], expected: usize, a: Intake) -> bool
+    ensures { λ r. ⌜ r ≡ right ⌝ }
+{
+    let answer = answer_of(a);
+    words::shown(right, text, expected, &answer)
 }
 
 // Reads the case's cells into a list of their count, and checks them as a book.
@@ -84,7 +102,8 @@ fn right_cells(text: &[u8], at: usize, c: Case, cells: &mut [i64]) -> bool
 {
     signed(text, at + 3, cells);
     let a = intake::check_book(cells, c.rows, c.cols);
-    same_answer(text, c.expected, a)
+    let right = same_answer(text, c.expected, a);
+    shown_answer(right, text, c.expected, a)
 }
 
 fn right_case(text: &[u8], at: usize, c: Case) -> bool
@@ -96,7 +115,7 @@ fn right_case(text: &[u8], at: usize, c: Case) -> bool
     right_cells(text, at, c, &mut cells[..n])
 }
 
-// Runs every case of the text, and reports those that differ; kind 0: there is only one.
+// Runs every case of the text, and reports those that differ; there is one kind only.
 fn run(text: &[u8]) -> Counts
     requires { ⌜ length (now text) ≤ 262144 ⌝ }
     ensures { λ r. ⌜ r ≡ countsIn (now (text .entry)) ⌝ }
@@ -110,7 +129,7 @@ fn run(text: &[u8]) -> Counts
     while at < words {
         let c = read_case(text, at);
         let right = right_case(text, at, c);
-        counts = words::counted(counts, right, at, 0);
+        counts = words::counted(counts, right, 0, at, c.next, words);
         at = c.next;
     }
     counts
@@ -168,7 +187,7 @@ fn main() {
     let mut text = words::text_buffer();
     let n = io::read_full(0, &mut text);
     let counts = run(&text[..n]);
-    words::summary(counts);
+    words::summary(counts, n, text.len());
     print_made(256, made_answer(256));
     print_made(257, made_answer(257));
 }

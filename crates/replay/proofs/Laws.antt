@@ -1,31 +1,13 @@
--- What is lent to a leaf, and the tests of what it gives and leaves. Assumes nothing.
+-- What is lent to a leaf, and read for it. Assumes nothing.
 use Prim.Native.Nat.{ℕ, _+_}
 use mathlib.Core.Path.{_≡_, _∙_}
-use mathlib.Core.Bool.{Bool, true, false}
+use mathlib.Core.Bool.{Bool}
 use mathlib.Core.List.{List}
 use lib.ListN.{replicate}
 use lib.Ieee.{Float}
-use Rattle.refusals.specs.Table.{Refusal}
-use Rattle.kmeans_answers.specs.Leaf.{Leaf}
-use Rattle.words.specs.Words.{doublesFrom, wordsFrom, sameNumbers, seven, namesWiped, leftLists}
+use Rattle.words.specs.Words.{doublesFrom, wordsFrom, seven}
 use Rattle.replay.specs.declared.Case.{Case}
-use Rattle.replay.specs.Cases.{sameAnswer, rightLeaf, leafOf, rightLists, rightCase}
-
--- What a leaf l gave and left: the answer q with the draws read, and the lists.
-module _ (text : List ℕ) (c : Case) (q : Refusal) (read : ℕ) (out : List ℕ) (floats : List Float) (numbers : List ℕ) {l : Leaf}
-    (gave : record { answer = q; read = read; out = out; floats = floats; numbers = numbers } ≡ l) where
-  pub answer-differs : {r : Bool} → r ≡ sameAnswer text (c .expected) q read → r ≡ false → false ≡ rightLeaf text c l
-  unfolding rightLeaf
-  answer-differs e h = rw (← gave, ← e, h)
-
-  pub numbers-differ : {r s : Bool} → r ≡ sameAnswer text (c .expected) q read → r ≡ true → s ≡ sameNumbers text (c .expected + 3) out → s ≡ false → false ≡ rightLeaf text c l
-  unfolding rightLeaf
-  numbers-differ e h f g = rw (← gave, ← e, h, ← f, g)
-
-  pub lists-decide : {r s t : Bool} {m : ℕ} → r ≡ sameAnswer text (c .expected) q read → r ≡ true → s ≡ sameNumbers text (c .expected + 3) out → s ≡ true
-      → m ≡ namesWiped (q .number) (c .n) → t ≡ leftLists m floats numbers → t ≡ rightLeaf text c l
-  unfolding rightLeaf
-  lists-decide e h f g w u = rw (← gave, ← e, h, ← f, g, ← w) u
+use Rattle.replay.specs.Cases.{rightLeaf, leafOf, rightLists, rightCase}
 
 -- lists of equal cells were lent
 pub lent : (text : List ℕ) (c : Case) (points : List Float) (draws centres : List ℕ) {out : List ℕ} {floats : List Float} {numbers : List ℕ} {r : Bool}

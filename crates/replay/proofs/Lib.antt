@@ -1,2 +1,2 @@
--- Laws of what is lent to a leaf, and of the tests of what it gives and leaves.
+-- Laws of what is lent to a leaf, and read for it.
 pub mod Laws

@@ -1,13 +1,17 @@
-// Runs recorded cases of the k-means leaves and counts those that are answered otherwise than by the unchanged Rust.
+// Runs recorded cases of the k-means leaves and counts those that are answered otherwise than recorded.
+// Centres, labels and 8 are recorded from runs of the unchanged Rust on the case's draws; 2, 4, 5, 6, 7, 10 and 29 are the
+// table's.
 // Standard input has one word a line, 16 hex digits. A case is eight words, two lists and the expected answer:
 // - the leaf (1 kmeans_plus_plus, 2 lloyd, 3 kmeans_labels), n, k, and the lengths of five lists: points, draws or centres,
 //   output, working doubles, working numbers. For 2 the group count is the count of centres, whatever k is;
 // - the points as the bits of doubles, then the draws or centres;
 // - the number (0: not refused), the place, the draws read, and the output list.
 // Lent lists hold 999 or 7.0 in each cell before the call. harness/kmeans/run.sh records the cases, and specs/Cases.antt
-// says when one is answered as recorded.
+// says when one is answered as recorded. For a case that differs the program prints the number, place and draws read, as
+// expected and as found, then the case's number from 1, its leaf as the kind, and the words from which to which it stands.
 ghost use Prim.Native.Nat.{_<_, _≤_};
 ghost use mathlib.Core.Path.{_≡_};
+ghost use mathlib.Core.List.{[], _∷_};
 ghost use lib.ListN.{length, take, replicate};
 ghost use Rattle.kmeans_answers.specs.Answers.{refusalOf, readOf};
 ghost use Rattle.words.specs.Words.{seven, doublesFrom, wordsFrom};
@@ -134,16 +138,59 @@ fn call(
     kmeans::kmeans_labels(points, c.n, c.k, draws, out, floats, numbers)
 }
 
+// The answer's number, place and draws read.
+fn answer_of(a: Kmeans) -> [usize; 3]
+    ensures { λ r. ⌜ r ≡ refusalOf a .number ∷ refusalOf a .place ∷ readOf a ∷ [] ⌝ }
+{
+    [
+        kmeans_answers::number_of(a),
+        kmeans_answers::place_of(a),
+        kmeans_answers::read_of(a),
+    ]
+}
+
 // Whether the text has this answer's number, place and draws read at `expected`.
 fn same_answer(text: &[u8], expected: usize, a: Kmeans) -> bool
     ensures { λ r. ⌜ r ≡ sameAnswer (now (text .entry)) expected (refusalOf a) (readOf a) ⌝ }
 {
-    let answer = [
-        kmeans_answers::number_of(a),
-        kmeans_answers::place_of(a),
-        kmeans_answers::read_of(a),
-    ];
+    let answer = answer_of(a);
     words::same_numbers(text, expected, &answer)
+}
+
+// Whether a case is right, as handed in. If it is not, prints these three, as expected and as found.
+fn shown_answer(right: bool, text: &[u8], expected: usize, a: Kmeans) -> bool
+    ensures { λ r. ⌜ r ≡ right ⌝ }
+{
+    let answer = answer_of(a);
+    words::shown(right, text, expected, &answer)
+}
+
+// Whether a leaf's answer and the lists that it left are as recorded.
+fn same_leaf(
+    text: &[u8],
+    c: Case,
+    a: Kmeans,
+    out: &[usize],
+    floats: &[f64],
+    numbers: &[usize],
+) -> bool
+    requires { ⌜ c .expected ≤ 20328 ⌝ }
+    ensures { λ r. ⌜ r ≡ rightLeaf (now (text .entry)) c (record {
+      answer = refusalOf a;
+      read = readOf a;
+      out = now (out .entry);
+      floats = now (floats .entry);
+      numbers = now (numbers .entry);
+    }) ⌝ }
+{
+    if !same_answer(text, c.expected, a) {
+        return false;
+    }
+    if !words::same_numbers(text, c.expected + 3, out) {
+        return false;
+    }
+    let names = words::names_wiped(kmeans_answers::number_of(a), c.n);
+    words::left_lists(names, floats, numbers)
 }
 
 // Runs a leaf, and compares what it answers and leaves.
@@ -161,14 +208,8 @@ fn right_lists(
     ensures { λ r. ⌜ r ≡ rightLeaf (now (text .entry)) c (leafOf c (now (points .entry)) (now (draws .entry)) (now (centres .entry)) (now (out .entry)) (now (floats .entry)) (now (numbers .entry))) ⌝ }
 {
     let a = call(c, points, draws, centres, out, floats, numbers);
-    if !same_answer(text, c.expected, a) {
-        return false;
-    }
-    if !words::same_numbers(text, c.expected + 3, out) {
-        return false;
-    }
-    let names = words::names_wiped(kmeans_answers::number_of(a), c.n);
-    words::left_lists(names, floats, numbers)
+    let right = same_leaf(text, c, a, out, floats, numbers);
+    shown_answer(right, text, c.expected, a)
 }
 
 // The same, on lists of the case's sizes.
@@ -229,7 +270,7 @@ fn run(text: &[u8]) -> Counts
     while at < words {
         let c = read_case(text, at);
         let right = right_case(text, at, c);
-        counts = words::counted(counts, right, at, c.leaf);
+        counts = words::counted(counts, right, c.leaf, at, c.next, words);
         at = c.next;
     }
     counts
@@ -239,5 +280,5 @@ fn main() {
     let mut text = words::text_buffer();
     let n = io::read_full(0, &mut text);
     let counts = run(&text[..n]);
-    words::summary(counts);
+    words::summary(counts, n, text.len());
 }

@@ -27,7 +27,7 @@ module _ (text : List ℕ) (c : Case) (cells : List Float) (draws : List ℕ) wh
 
 -- the cells and the draws were read from the text
 pub were-read : (text : List ℕ) (at : ℕ) (c : Case) {cells : List Float} {draws : List ℕ} {r : Bool}
-    → cells ≡ doublesFrom text (at + 11) (c .cells) → draws ≡ wordsFrom text (at + 11 + c .cells) (c .draws)
+    → cells ≡ doublesFrom text (at + 12) (c .cells) → draws ≡ wordsFrom text (at + 12 + c .cells) (c .draws)
     → r ≡ rightLists text c cells draws → r ≡ rightCase text at c
 unfolding rightCase
 were-read text at c p d h = h ∙ rw (p, d)

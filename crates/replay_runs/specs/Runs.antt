@@ -10,7 +10,7 @@ use Rattle.onc.specs.Onc.{Lists, Outcome, groupOf}
 use Rattle.words.specs.declared.Counts.{Counts}
 use Rattle.replay_runs.specs.declared.Case.{Case}
 
--- the case at `at`: eleven words, the cells, the draws, and then the expected answer
+-- the case at `at`: twelve words, the cells, the draws, and then the expected answer
 unfoldable pub caseAt : List ℕ → ℕ → Case
 caseAt text at =
     record {
@@ -25,9 +25,10 @@ caseAt text at =
       ordered = sizeFrom text at 8 256;
       floats = sizeFrom text at 9 4400;
       numbers = sizeFrom text at 10 4000;
-      expected = at + 11 + sizeFrom text at 3 144 + sizeFrom text at 4 2048;
+      kind = wordFrom text at 11;
+      expected = at + 12 + sizeFrom text at 3 144 + sizeFrom text at 4 2048;
       next =
-          at + 11 + sizeFrom text at 3 144 + sizeFrom text at 4 2048 + 4 + sizeFrom text at 5 16 + sizeFrom text at 6 16 + sizeFrom text at 7 16
+          at + 12 + sizeFrom text at 3 144 + sizeFrom text at 4 2048 + 4 + sizeFrom text at 5 16 + sizeFrom text at 6 16 + sizeFrom text at 7 16
           + sizeFrom text at 8 256;
     }
 
@@ -64,9 +65,9 @@ lentTo c =
 unfoldable pub rightLists : List ℕ → Case → List Float → List ℕ → Bool
 rightLists text c cells draws = rightRun text c (groupOf cells (c .rows) (c .cols) (c .repeat) draws (lentTo c))
 
--- the same, on the cells and the draws that the text has after the eleven words at `at`
+-- the same, on the cells and the draws that the text has after the twelve words at `at`
 unfoldable pub rightCase : List ℕ → ℕ → Case → Bool
-rightCase text at c = rightLists text c (doublesFrom text (at + 11) (c .cells)) (wordsFrom text (at + 11 + c .cells) (c .draws))
+rightCase text at c = rightLists text c (doublesFrom text (at + 12) (c .cells)) (wordsFrom text (at + 12 + c .cells) (c .draws))
 
 -- the cases of a text, and how many of them are answered otherwise
 unfoldable pub countsIn : List ℕ → Counts

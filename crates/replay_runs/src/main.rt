@@ -1,15 +1,18 @@
 // Runs recorded whole runs of the grouping and counts those that are answered otherwise than recorded.
 // Groupings, 7, 8 and 9 are recorded from runs of the unchanged Rust on the case's draws; 1, 2, 4, 5 and 6, the rows that
 // keep every list, are the table's.
-// Standard input has one word a line, 16 hex digits. A case is eleven words, two lists and the expected answer:
-// - rows, cols, repeat, and the lengths of eight lists: cells, draws, order, sizes, scores, ordered matrix, working
-//   doubles, working numbers;
+// Standard input has one word a line, 16 hex digits. A case is twelve words, two lists and the expected answer:
+// - rows, cols, repeat, the lengths of eight lists: cells, draws, order, sizes, scores, ordered matrix, working
+//   doubles, working numbers; and the kind of the case, by its number in kinds.txt;
 // - the cells as the bits of doubles, then the draws;
 // - the number (0: a grouping), the place, the groups, the draws read; then order, sizes, scores and ordered matrix as
 //   they stand after the call.
 // Lent lists hold 999 or 7.0 in each cell before the call. specs/Runs.antt says when a case is answered as recorded.
+// For a case that differs the program prints the number, place, groups and draws read, as expected and as found, then the
+// case's number from 1, its kind, and the words from which to which it stands. harness/grouping/run.sh records the cases.
 ghost use Prim.Native.Nat.{_<_, _≤_};
 ghost use mathlib.Core.Path.{_≡_};
+ghost use mathlib.Core.List.{[], _∷_};
 ghost use lib.ListN.{length, take, replicate};
 ghost use Rattle.onc_answers.specs.Answers.{answerOf};
 ghost use Rattle.onc.specs.Onc.{groupOf};
@@ -31,15 +34,16 @@ struct Case {
     ordered: usize,
     floats: usize,
     numbers: usize,
+    kind: u64,
     expected: usize,
     next: usize,
 }
 
 // Each list comes from a function: a literal array would stand in every goal, cell by cell.
-fn text_buffer() -> [u8; 1310720]
-    ensures { λ r. ⌜ 1310720 ≡ length r ⌝ }
+fn text_buffer() -> [u8; 1572864]
+    ensures { λ r. ⌜ 1572864 ≡ length r ⌝ }
 {
-    [0; 1310720]
+    [0; 1572864]
 }
 
 fn cell_buffer() -> [f64; 144]
@@ -103,12 +107,12 @@ fn draws_at(text: &[u8], at: usize, n: usize) -> [u64; 2048]
     xs
 }
 
-// The case at `at`: eleven words, and the expected answer after its cells and draws.
+// The case at `at`: twelve words, and the expected answer after its cells and draws.
 fn read_case(text: &[u8], at: usize) -> Case
-    requires { ⌜ at ≤ 77101 ⌝ }
+    requires { ⌜ at ≤ 92521 ⌝ }
     ensures { λ r. ⌜ r ≡ caseAt (now (text .entry)) at ⌝ }
     ensures { λ r. ⌜ (r .cells ≤ 144) × (r .draws ≤ 2048) × (r .order ≤ 16) × (r .sizes ≤ 16) × (r .scores ≤ 16) × (r .ordered ≤ 256) × (r .floats ≤ 4400) × (r .numbers ≤ 4000)
-        × (r .expected ≤ 79304) × (at < r .next) ⌝ }
+        × (r .expected ≤ 94725) × (at < r .next) ⌝ }
 {
     let cells = words::size_from(text, at, 3, 144);
     let draws = words::size_from(text, at, 4, 2048);
@@ -116,7 +120,7 @@ fn read_case(text: &[u8], at: usize) -> Case
     let sizes = words::size_from(text, at, 6, 16);
     let scores = words::size_from(text, at, 7, 16);
     let ordered = words::size_from(text, at, 8, 256);
-    let expected = at + 11 + cells + draws;
+    let expected = at + 12 + cells + draws;
     Case {
         rows: words::word_from(text, at, 0) as usize,
         cols: words::word_from(text, at, 1) as usize,
@@ -129,25 +133,41 @@ fn read_case(text: &[u8], at: usize) -> Case
         ordered,
         floats: words::size_from(text, at, 9, 4400),
         numbers: words::size_from(text, at, 10, 4000),
+        kind: words::word_from(text, at, 11),
         expected,
         next: expected + 4 + order + sizes + scores + ordered,
     }
+}
+
+// The answer's number, place, groups and draws read.
+fn answer_of(a: Onc) -> [usize; 4]
+    ensures { λ r. ⌜ r ≡ answerOf a .refused .number ∷ answerOf a .refused .place ∷ answerOf a .groups ∷ answerOf a .read ∷ [] ⌝ }
+{
+    [
+        onc_answers::number_of(a),
+        onc_answers::place_of(a),
+        onc_answers::groups_of(a),
+        onc_answers::read_of(a),
+    ]
 }
 
 // Whether the text has this answer's number, place, groups and draws read at `expected`.
 fn same_answer(text: &[u8], expected: usize, a: Onc) -> bool
     ensures { λ r. ⌜ r ≡ sameAnswer (now (text .entry)) expected (answerOf a) ⌝ }
 {
-    let answer = [
-        onc_answers::number_of(a),
-        onc_answers::place_of(a),
-        onc_answers::groups_of(a),
-        onc_answers::read_of(a),
-    ];
+    let answer = answer_of(a);
     words::same_numbers(text, expected, &answer)
 }
 
-// Whether it has these outputs behind that, one after the other.
+// Whether a case is right, as handed in. If it is not, prints these four, as expected and as found.
+fn shown_answer(right: bool, text: &[u8], expected: usize, a: Onc) -> bool
+    ensures { λ r. ⌜ r ≡ right ⌝ }
+{
+    let answer = answer_of(a);
+    words::shown(right, text, expected, &answer)
+}
+
+// Whether the text has these outputs behind that, one after the other.
 fn same_outputs(
     text: &[u8],
     c: Case,
@@ -156,7 +176,7 @@ fn same_outputs(
     scores: &[f64],
     ordered: &[f64],
 ) -> bool
-    requires { ⌜ (c .expected ≤ 79304) × (c .order ≤ 16) × (c .sizes ≤ 16) × (c .scores ≤ 16) ⌝ }
+    requires { ⌜ (c .expected ≤ 94725) × (c .order ≤ 16) × (c .sizes ≤ 16) × (c .scores ≤ 16) ⌝ }
     ensures { λ r. ⌜ r ≡ sameOutputs (now (text .entry)) c (now (order .entry)) (now (sizes .entry)) (now (scores .entry)) (now (ordered .entry)) ⌝ }
 {
     let order_at = c.expected + 4;
@@ -186,7 +206,7 @@ fn same_run(
     floats: &[f64],
     numbers: &[usize],
 ) -> bool
-    requires { ⌜ (c .expected ≤ 79304) × (c .order ≤ 16) × (c .sizes ≤ 16) × (c .scores ≤ 16) ⌝ }
+    requires { ⌜ (c .expected ≤ 94725) × (c .order ≤ 16) × (c .sizes ≤ 16) × (c .scores ≤ 16) ⌝ }
     ensures { λ r. ⌜ r ≡ rightRun (now (text .entry)) c (record {
       answer = answerOf a;
       lists = record {
@@ -222,7 +242,7 @@ fn right_run(
     floats: &mut [f64],
     numbers: &mut [usize],
 ) -> bool
-    requires { ⌜ (c .expected ≤ 79304) × (c .order ≤ 16) × (c .sizes ≤ 16) × (c .scores ≤ 16) ⌝ }
+    requires { ⌜ (c .expected ≤ 94725) × (c .order ≤ 16) × (c .sizes ≤ 16) × (c .scores ≤ 16) ⌝ }
     ensures { λ r. ⌜ r ≡ rightRun (now (text .entry)) c (groupOf (now (cells .entry)) (c .rows) (c .cols) (c .repeat) (now (draws .entry)) (record {
       order = now (order .entry);
       sizes = now (sizes .entry);
@@ -245,7 +265,8 @@ fn right_run(
         floats,
         numbers,
     );
-    same_run(text, c, a, order, sizes, scores, ordered, floats, numbers)
+    let right = same_run(text, c, a, order, sizes, scores, ordered, floats, numbers);
+    shown_answer(right, text, c.expected, a)
 }
 
 // The same, on working lists of the case's lengths.
@@ -259,7 +280,7 @@ fn right_worked(
     scores: &mut [f64],
     ordered: &mut [f64],
 ) -> bool
-    requires { ⌜ (c .expected ≤ 79304) × (c .order ≤ 16) × (c .sizes ≤ 16) × (c .scores ≤ 16) × (c .floats ≤ 4400) × (c .numbers ≤ 4000) ⌝ }
+    requires { ⌜ (c .expected ≤ 94725) × (c .order ≤ 16) × (c .sizes ≤ 16) × (c .scores ≤ 16) × (c .floats ≤ 4400) × (c .numbers ≤ 4000) ⌝ }
     ensures { λ r. ⌜ r ≡ rightRun (now (text .entry)) c (groupOf (now (cells .entry)) (c .rows) (c .cols) (c .repeat) (now (draws .entry)) (record {
       order = now (order .entry);
       sizes = now (sizes .entry);
@@ -289,7 +310,7 @@ fn right_worked(
 
 // The same, on outputs of the case's lengths.
 fn right_lists(text: &[u8], c: Case, cells: &[f64], draws: &[u64]) -> bool
-    requires { ⌜ (c .expected ≤ 79304) × (c .order ≤ 16) × (c .sizes ≤ 16) × (c .scores ≤ 16) × (c .floats ≤ 4400) × (c .numbers ≤ 4000) × (c .ordered ≤ 256) ⌝ }
+    requires { ⌜ (c .expected ≤ 94725) × (c .order ≤ 16) × (c .sizes ≤ 16) × (c .scores ≤ 16) × (c .floats ≤ 4400) × (c .numbers ≤ 4000) × (c .ordered ≤ 256) ⌝ }
     ensures { λ r. ⌜ r ≡ rightLists (now (text .entry)) c (now (cells .entry)) (now (draws .entry)) ⌝ }
 {
     let mut order = number_buffer();
@@ -314,22 +335,22 @@ fn right_lists(text: &[u8], c: Case, cells: &[f64], draws: &[u64]) -> bool
 
 // Reads the case's cells and draws, and runs it.
 fn right_case(text: &[u8], at: usize, c: Case) -> bool
-    requires { ⌜ (at ≤ 77101) × (c .cells ≤ 144) × (c .draws ≤ 2048) ⌝ }
-    requires { ⌜ (c .expected ≤ 79304) × (c .order ≤ 16) × (c .sizes ≤ 16) × (c .scores ≤ 16) × (c .floats ≤ 4400) × (c .numbers ≤ 4000) × (c .ordered ≤ 256) ⌝ }
+    requires { ⌜ (at ≤ 92521) × (c .cells ≤ 144) × (c .draws ≤ 2048) ⌝ }
+    requires { ⌜ (c .expected ≤ 94725) × (c .order ≤ 16) × (c .sizes ≤ 16) × (c .scores ≤ 16) × (c .floats ≤ 4400) × (c .numbers ≤ 4000) × (c .ordered ≤ 256) ⌝ }
     ensures { λ r. ⌜ r ≡ rightCase (now (text .entry)) at c ⌝ }
 {
     let n_cells = c.cells;
     let n_draws = c.draws;
-    let first = at + 11;
+    let first = at + 12;
     let second = first + n_cells;
     let cells = cells_at(text, first, n_cells);
     let draws = draws_at(text, second, n_draws);
     right_lists(text, c, &cells[..n_cells], &draws[..n_draws])
 }
 
-// Runs every case of the text, and reports those that differ; kind 0: there is only one.
+// Runs every case of the text, and reports those that differ.
 fn run(text: &[u8]) -> Counts
-    requires { ⌜ length (now text) ≤ 1310720 ⌝ }
+    requires { ⌜ length (now text) ≤ 1572864 ⌝ }
     ensures { λ r. ⌜ r ≡ countsIn (now (text .entry)) ⌝ }
 {
     let words = text.len() / 17;
@@ -341,7 +362,7 @@ fn run(text: &[u8]) -> Counts
     while at < words {
         let c = read_case(text, at);
         let right = right_case(text, at, c);
-        counts = words::counted(counts, right, at, 0);
+        counts = words::counted(counts, right, c.kind, at, c.next, words);
         at = c.next;
     }
     counts
@@ -351,5 +372,5 @@ fn main() {
     let mut text = text_buffer();
     let n = io::read_full(0, &mut text);
     let counts = run(&text[..n]);
-    words::summary(counts);
+    words::summary(counts, n, text.len());
 }

@@ -3,11 +3,20 @@
 // - two lines of 16 hex digits: the length of a text, and the length of what must be printed for it;
 // - the bytes of the text, then the bytes that must be printed.
 // A text may have any bytes, so a case is found by its byte place. specs/Texts.antt says when it is answered as recorded.
+// For a case that differs the program prints what is expected and what was found, then the case's number from 1 and the
+// bytes from which to which it stands. harness/grouping/run.sh records the cases.
 ghost use Prim.Native.Nat.{_+_, _<_, _≤_};
 ghost use mathlib.Core.Path.{_≡_};
 ghost use lib.ListN.{length};
 ghost use Rattle.texts.specs.Texts.{firstOf, caseAt, sameBytes, rightText, rightCase, countsIn};
 use words::Counts;
+
+// A file's bytes, by their count alone: a literal array would stand in every goal, cell by cell.
+fn text_buffer() -> [u8; 524288]
+    ensures { λ r. ⌜ 524288 ≡ length r ⌝ }
+{
+    [0; 524288]
+}
 
 // Where the text of a case starts, its length, and the length of what must be printed, which stands behind it.
 struct Case {
@@ -18,7 +27,7 @@ struct Case {
 
 // Where the text of the case at `at` starts: behind the two lengths, or at the end of a file that is cut off before.
 fn first_of(cases: &[u8], at: usize) -> usize
-    requires { ⌜ (at < length (now cases)) × (length (now cases) ≤ 262144) ⌝ }
+    requires { ⌜ (at < length (now cases)) × (length (now cases) ≤ 524288) ⌝ }
     ensures { λ r. ⌜ (r ≡ firstOf (now (cases .entry)) at) × (at < r) × (r ≤ length (now (cases .entry))) ⌝ }
 {
     let first = at + 34;
@@ -31,7 +40,7 @@ fn first_of(cases: &[u8], at: usize) -> usize
 
 // The case at `at`, of what there is of it.
 fn read_case(cases: &[u8], at: usize) -> Case
-    requires { ⌜ (at < length (now cases)) × (length (now cases) ≤ 262144) ⌝ }
+    requires { ⌜ (at < length (now cases)) × (length (now cases) ≤ 524288) ⌝ }
     ensures { λ r. ⌜ (r ≡ caseAt (now (cases .entry)) at) × (at < r .first) × (r .first + r .text + r .answer ≤ length (now (cases .entry))) ⌝ }
 {
     let first = first_of(cases, at);
@@ -68,7 +77,8 @@ fn right_in(text: &[u8], answer: &[u8], out: &mut [u8]) -> bool
 {
     let w = grouping_text::answer_to(text, out);
     let n = answer_text::bytes_of(w);
-    same_bytes(&out[..n], answer)
+    let right = same_bytes(&out[..n], answer);
+    words::shown_text(right, answer, &out[..n])
 }
 
 fn right_text(text: &[u8], answer: &[u8]) -> bool
@@ -80,7 +90,7 @@ fn right_text(text: &[u8], answer: &[u8]) -> bool
 
 // Whether a case is answered as recorded.
 fn right_case(cases: &[u8], c: Case) -> bool
-    requires { ⌜ (c .first + c .text + c .answer ≤ length (now cases)) × (length (now cases) ≤ 262144) ⌝ }
+    requires { ⌜ (c .first + c .text + c .answer ≤ length (now cases)) × (length (now cases) ≤ 524288) ⌝ }
     ensures { λ r. ⌜ r ≡ rightCase (now (cases .entry)) c ⌝ }
 {
     let first = c.first;
@@ -89,9 +99,9 @@ fn right_case(cases: &[u8], c: Case) -> bool
     right_text(&cases[first..middle], &cases[middle..end])
 }
 
-// Runs every case of the file, and reports those that differ, by their byte place; kind 0: there is only one.
+// Runs every case of the file, and reports those that differ, by their byte places; there is one kind only.
 fn run(cases: &[u8]) -> Counts
-    requires { ⌜ length (now cases) ≤ 262144 ⌝ }
+    requires { ⌜ length (now cases) ≤ 524288 ⌝ }
     ensures { λ r. ⌜ r ≡ countsIn (now (cases .entry)) ⌝ }
 {
     let n = cases.len();
@@ -103,15 +113,16 @@ fn run(cases: &[u8]) -> Counts
     while at < n {
         let c = read_case(cases, at);
         let right = right_case(cases, c);
-        counts = words::counted(counts, right, at, 0);
-        at = c.first + c.text + c.answer;
+        let next = c.first + c.text + c.answer;
+        counts = words::counted(counts, right, 0, at, next, n);
+        at = next;
     }
     counts
 }
 
 fn main() {
-    let mut cases = words::text_buffer();
+    let mut cases = text_buffer();
     let n = io::read_full(0, &mut cases);
     let counts = run(&cases[..n]);
-    words::summary(counts);
+    words::summary(counts, n, cases.len());
 }

@@ -12,13 +12,13 @@ use Rattle.bits.specs.Bits.{bitsOf, doubleOf}
 use Rattle.refusals.specs.Table.{workDoubles, workNumbers}
 use Rattle.words.specs.declared.Counts.{Counts}
 
--- the value of a digit's byte, 0 to 9 or a to f
-unfoldable pub digitOf : ℕ → ℕ
-digitOf b = cond (ltb b 0x61) (b % 16) ((b % 16 + 9) % 16)
+-- the value of a digit's byte, 0 to 9 or a to f; of any other byte some value below 16
+unfoldable pub hexDigitOf : ℕ → ℕ
+hexDigitOf b = cond (ltb b 0x61) (b % 16) ((b % 16 + 9) % 16)
 
 -- a value with one digit more at its end, of 16 digits at most: of 17 the first is lost
 unfoldable pub withDigit : ℕ → ℕ → ℕ
-withDigit value b = value % 0x1000_0000_0000_0000 * 16 + digitOf b
+withDigit value b = value % 0x1000_0000_0000_0000 * 16 + hexDigitOf b
 
 -- the value of the first k digits, read from the left, and of a list of digits
 unfoldable pub valueTo : (ℕ → ℕ) → ℕ → ℕ
@@ -100,17 +100,21 @@ startBy next (suc j) = next (startBy next j)
 unfoldable pub casesBy : (ℕ → ℕ) → ℕ → ℕ
 casesBy next n = firstTo (λ j. leb n (startBy next j)) (n + 1)
 
--- how many of the first k cases are not right, by where each starts
+-- how many of the first k cases do not pass, by where each starts
 abbrev pub differBy : (ℕ → ℕ) → (ℕ → Bool) → ℕ → ℕ
-differBy next right k = countIf (λ j. not (right (startBy next j))) k
+differBy next passed k = countIf (λ j. not (passed (startBy next j))) k
 
--- counts with one case more, which is right or not
+-- counts with one case more, which passes or not
 abbrev pub withCase : Counts → Bool → Counts
-withCase k right = record { cases = k .cases + 1; differ = k .differ + cond right 0 1 }
+withCase k passed = record { cases = k .cases + 1; differ = k .differ + cond passed 0 1 }
 
--- the cases of a text that is n long, and how many of them are not right, by the case that stands at a place, where the one behind a case
+-- whether a case that ends at `next` passes in a text that is n long: it is right, and does not end behind the text
+unfoldable pub passes : Bool → ℕ → ℕ → Bool
+passes right next n = leb next n && right
+
+-- the cases of a text that is n long, and how many of them do not pass, by the case that stands at a place, where the one behind a case
 -- starts, and whether a case at a place is right
 unfoldable pub countsBy : {C : Type 0} → (ℕ → C) → (C → ℕ) → (ℕ → C → Bool) → ℕ → Counts
 countsBy case next right n =
     let cases = casesBy (λ at. next (case at)) n in
-    record { cases = cases; differ = differBy (λ at. next (case at)) (λ at. right at (case at)) cases }
+    record { cases = cases; differ = differBy (λ at. next (case at)) (λ at. passes (right at (case at)) (next (case at)) n) cases }

@@ -3,7 +3,7 @@
 ghost use Prim.Native.Nat.{_<_, _≤_};
 ghost use mathlib.Core.Path.{_≡_};
 ghost use lib.ListN.{length};
-ghost use Rattle.words.specs.Words.{digitOf, withDigit, valueOf, wordAt, wordFrom, sizeFrom, doublesFrom, wordsFrom, sameNumbers, sameDoubles, frontOf, numbersFrontOf, leftAt, leftDoubles, leftNumbers, leftLists, namesWiped, withCase};
+ghost use Rattle.words.specs.Words.{hexDigitOf, withDigit, valueOf, wordAt, wordFrom, sizeFrom, doublesFrom, wordsFrom, sameNumbers, sameDoubles, frontOf, numbersFrontOf, leftAt, leftDoubles, leftNumbers, leftLists, namesWiped, passes, withCase};
 
 // A text's bytes, by their count alone: a literal array would stand in every goal, cell by cell.
 pub fn text_buffer() -> [u8; 262144]
@@ -12,9 +12,9 @@ pub fn text_buffer() -> [u8; 262144]
     [0; 262144]
 }
 
-// The value of a digit, 0 to 9 or a to f.
+// The value of a digit, 0 to 9 or a to f; of any other byte some value below 16.
 fn hex_digit(b: u8) -> u64
-    ensures { λ r. ⌜ (r ≡ digitOf b) × (r ≤ 15) ⌝ }
+    ensures { λ r. ⌜ (r ≡ hexDigitOf b) × (r ≤ 15) ⌝ }
 {
     if b < b'a' {
         return (b % 16) as u64;
@@ -212,7 +212,7 @@ pub fn names_wiped(number: usize, n: usize) -> usize
     }
 }
 
-// The next three and `summary` only print.
+// The functions from here to `report`, and `summary`, only print.
 fn print(text: &[u8]) {
     io::write_all(1, text);
 }
@@ -222,11 +222,57 @@ fn print_number(n: u64, after: &[u8]) {
     print(after);
 }
 
-// Names a case that differs by its place, a word's or a byte's, and its kind.
-fn report(at: usize, kind: u64) {
-    print(b"differs: case at ");
-    print_number(at as u64, b", kind ");
-    print_number(kind, b"\n");
+// n words of the text from `at` on, and the numbers of a list, in decimal.
+fn print_words(text: &[u8], at: usize, n: usize) {
+    for i in 0..n {
+        print_number(word_from(text, at, i), b" ");
+    }
+}
+
+fn print_numbers(xs: &[usize]) {
+    let n = xs.len();
+    for i in 0..n {
+        print_number(xs[i] as u64, b" ");
+    }
+}
+
+// Names a case that differs: its number from 1, its kind, 0 where a program has one kind only, the place where it starts
+// and the one where the next case does, and the length of the text: places of words, or of bytes.
+fn report(case: u64, kind: u64, at: usize, next: usize, n: usize) {
+    print(b"case ");
+    print_number(case, b" differs, kind ");
+    print_number(kind, b", from ");
+    print_number(at as u64, b" to ");
+    print_number(next as u64, b" of ");
+    print_number(n as u64, b"\n");
+}
+
+// Whether a case is right, as handed in. If it is not, prints its expected answer, which stands at `at`, and what was found.
+pub fn shown(right: bool, text: &[u8], at: usize, found: &[usize]) -> bool
+    ensures { λ r. ⌜ r ≡ right ⌝ }
+{
+    if right {
+        return true;
+    }
+    print(b"expected ");
+    print_words(text, at, found.len());
+    print(b"found ");
+    print_numbers(found);
+    false
+}
+
+// The same for an answer that is a text.
+pub fn shown_text(right: bool, expected: &[u8], found: &[u8]) -> bool
+    ensures { λ r. ⌜ r ≡ right ⌝ }
+{
+    if right {
+        return true;
+    }
+    print(b"expected ");
+    print(expected);
+    print(b"found ");
+    print(found);
+    false
 }
 
 // How many cases ran, and how many of them differed.
@@ -235,27 +281,40 @@ pub struct Counts {
     pub differ: u64,
 }
 
-// One case more, which is answered as expected, or differs and is reported.
-pub fn counted(counts: Counts, right: bool, at: usize, kind: u64) -> Counts
+// Whether a case that ends at `next` passes in a text that is n long: it is right, and does not end behind the text.
+fn whole_and_right(right: bool, next: usize, n: usize) -> bool
+    ensures { λ r. ⌜ r ≡ passes right next n ⌝ }
+{
+    if next > n {
+        return false;
+    }
+    right
+}
+
+// One case more, of this kind, from `at` to `next` in a text that is n long. One that does not pass is reported.
+pub fn counted(counts: Counts, right: bool, kind: u64, at: usize, next: usize, n: usize) -> Counts
     requires { ⌜ (counts .differ ≤ counts .cases) × (counts .cases < 0xffff_ffff_ffff_ffff) ⌝ }
-    ensures { λ r. ⌜ r ≡ withCase counts right ⌝ }
+    ensures { λ r. ⌜ r ≡ withCase counts (passes right next n) ⌝ }
 {
     let cases = counts.cases + 1;
-    if right {
+    if whole_and_right(right, next, n) {
         return Counts {
             cases,
             differ: counts.differ,
         };
     }
-    report(at, kind);
+    report(cases, kind, at, next, n);
     Counts {
         cases,
         differ: counts.differ + 1,
     }
 }
 
-// Prints both.
-pub fn summary(counts: Counts) {
+// Prints both. A text that fills the room for it may be longer, with cases that did not run: that is printed too.
+pub fn summary(counts: Counts, bytes: usize, room: usize) {
     print_number(counts.cases, b" cases, ");
     print_number(counts.differ, b" differ\n");
+    if bytes >= room {
+        print(b"differs: the text fills the room for it and may be cut off\n");
+    }
 }

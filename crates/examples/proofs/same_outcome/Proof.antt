@@ -1,7 +1,5 @@
-use mathlib.Core.Path.{refl}
-use native.Mathlib.Omega.{arith}
-use borrow.Author.Tests.{not-true, not-false}
-use Rattle.words.proofs.Values.{first-fails, first-passes}
+use mathlib.Core.Path.{refl, _∙_}
+use borrow.Author.Needs.{needs}
 use Rattle.examples.specs.Cases.{sameOutcome}
 use Rattle.examples.proofs.same_outcome.Statement.{statement}
 use Rattle.examples.proofs.same_outcome.Tie as tie
@@ -12,25 +10,21 @@ number-of-requires c κs = tt
 place-of-requires : tie.Need-place-of-requires
 place-of-requires c κs = tt
 
-slice-aggregate-same-numbers : tie.Need-slice-aggregate-same-numbers
-slice-aggregate-same-numbers c = refl
+slice-aggregate-same-values : tie.Need-slice-aggregate-same-values
+slice-aggregate-same-values c = refl
 
-same-numbers-requires : tie.Need-same-numbers-requires
-same-numbers-requires c κs = tt
+same-values-requires : tie.Need-same-values-requires
+same-values-requires c κs = search needs
+
+slice-aggregate-shown : tie.Need-slice-aggregate-shown
+slice-aggregate-shown c = refl
+
+shown-requires : tie.Need-shown-requires
+shown-requires c κs = tt
 
 returns : tie.Need-returns
 unfolding sameOutcome
-returns c = rw (← c .before .before .before .before .number-of .ensures, ← c .before .before .before .place-of .ensures) (first-fails _ (c .before .same-numbers .ensures) (not-true _ (c .if1 .taken)))
-
-add-same-doubles : tie.Need-add-same-doubles
-add-same-doubles c = omega arith
-
-same-doubles-requires : tie.Need-same-doubles-requires
-same-doubles-requires c κs = tt
-
-returns-2 : tie.Need-returns-2
-unfolding sameOutcome
-returns-2 c = rw (← c .before .before .before .before .before .number-of .ensures, ← c .before .before .before .before .place-of .ensures) (first-passes (c .before .before .same-numbers .ensures) (not-false _ (c .before .if1 .left)) (c .same-doubles .ensures))
+returns c = rw (← c .before .before .before .before .before .number-of .ensures, ← c .before .before .before .before .place-of .ensures) (c .shown .ensures ∙ c .before .before .same-values .ensures)
 
 pub same-outcome-spec : {M : Type 1} → statement M
 same-outcome-spec =
@@ -38,9 +32,8 @@ same-outcome-spec =
     (tie.spec
     number-of-requires
     place-of-requires
-    slice-aggregate-same-numbers
-    same-numbers-requires
-    returns
-    add-same-doubles
-    same-doubles-requires
-    returns-2)
+    slice-aggregate-same-values
+    same-values-requires
+    slice-aggregate-shown
+    shown-requires
+    returns)

@@ -18,11 +18,16 @@ check-book-requires c κs = tt
 same-answer-requires : tie.Need-same-answer-requires
 same-answer-requires c κs = tt
 
+shown-answer-requires : tie.Need-shown-answer-requires
+shown-answer-requires c κs = tt
+
 same-length : tie.Need-same-length
-same-length c = c .before .before .before .before .signed .kept .1 .1 .0
+same-length c = c .before .before .before .before .before .signed .kept .1 .1 .0
 
 returns : tie.Need-returns
-returns c = was-read (c .before .before .before .before .before .before .before .args .text .now) (c .before .before .before .before .before .before .before .args .at) (c .before .before .before .before .before .before .before .args .c) (c .before .before .before .before .signed .ensures ∙ ap (signedFrom (c .before .before .before .before .before .before .before .args .text .now) (c .before .before .before .before .before .before .before .args .at + 3)) (c .before .before .before .before .before .before .before .pre .1)) (c .before .check-book .ensures) (c .same-answer .ensures)
+returns c =
+    let s = c .before .before .before .before .before .before .before .before in
+    was-read (s .args .text .now) (s .args .at) (s .args .c) (c .before .before .before .before .before .signed .ensures ∙ ap (signedFrom (s .args .text .now) (s .args .at + 3)) (s .pre .1)) (c .before .before .check-book .ensures) (c .shown-answer .ensures ∙ c .before .same-answer .ensures)
 
 pub right-cells-spec : {M : Type 1} → statement M
 right-cells-spec =
@@ -32,5 +37,6 @@ right-cells-spec =
     signed-requires
     check-book-requires
     same-answer-requires
+    shown-answer-requires
     same-length
     returns)

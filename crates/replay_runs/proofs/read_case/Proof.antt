@@ -45,8 +45,8 @@ size-from-requires-7 c κs = tt
 size-from-requires-8 : tie.Need-size-from-requires-8
 size-from-requires-8 c κs = tt
 
-add-t18 : tie.Need-add-t18
-add-t18 c = omega arith
+word-from-requires-4 : tie.Need-word-from-requires-4
+word-from-requires-4 c κs = tt
 
 add-t19 : tie.Need-add-t19
 add-t19 c = omega arith
@@ -60,11 +60,14 @@ add-t21 c = omega arith
 add-t22 : tie.Need-add-t22
 add-t22 c = omega arith
 
+add-t23 : tie.Need-add-t23
+add-t23 c = omega arith
+
 returns : tie.Need-returns
 unfolding caseAt
 returns c = (
-  rw (← c .before .before .before .before .before .before .before .before .before .before .size-from .ensures .0, ← c .before .before .before .before .before .before .before .before .before .size-from2 .ensures .0, ← c .before .before .before .before .before .before .before .before .size-from3 .ensures .0, ← c .before .before .before .before .before .before .before .size-from4 .ensures .0, ← c .before .before .before .before .before .before .size-from5 .ensures .0, ← c .before .before .before .before .before .size-from6 .ensures .0, ← c .before .size-from7 .ensures .0, ← c .size-from8 .ensures .0, ← c .before .before .before .before .word-from .ensures, ← c .before .before .before .word-from2 .ensures, ← c .before .before .word-from3 .ensures),
-  (c .before .before .before .before .before .before .before .before .before .before .size-from .ensures .1, c .before .before .before .before .before .before .before .before .before .size-from2 .ensures .1, c .before .before .before .before .before .before .before .before .size-from3 .ensures .1, c .before .before .before .before .before .before .before .size-from4 .ensures .1, c .before .before .before .before .before .before .size-from5 .ensures .1, c .before .before .before .before .before .size-from6 .ensures .1, c .before .size-from7 .ensures .1, c .size-from8 .ensures .1, omega arith, omega arith),
+  rw (← c .before .before .before .before .before .before .before .before .before .before .before .size-from .ensures .0, ← c .before .before .before .before .before .before .before .before .before .before .size-from2 .ensures .0, ← c .before .before .before .before .before .before .before .before .before .size-from3 .ensures .0, ← c .before .before .before .before .before .before .before .before .size-from4 .ensures .0, ← c .before .before .before .before .before .before .before .size-from5 .ensures .0, ← c .before .before .before .before .before .before .size-from6 .ensures .0, ← c .before .before .size-from7 .ensures .0, ← c .before .size-from8 .ensures .0, ← c .before .before .before .before .before .word-from .ensures, ← c .before .before .before .before .word-from2 .ensures, ← c .before .before .before .word-from3 .ensures, ← c .word-from4 .ensures),
+  (c .before .before .before .before .before .before .before .before .before .before .before .size-from .ensures .1, c .before .before .before .before .before .before .before .before .before .before .size-from2 .ensures .1, c .before .before .before .before .before .before .before .before .before .size-from3 .ensures .1, c .before .before .before .before .before .before .before .before .size-from4 .ensures .1, c .before .before .before .before .before .before .before .size-from5 .ensures .1, c .before .before .before .before .before .before .size-from6 .ensures .1, c .before .before .size-from7 .ensures .1, c .before .size-from8 .ensures .1, omega arith, omega arith),
 )
 
 pub read-case-spec : {M : Type 1} → statement M
@@ -85,9 +88,10 @@ read-case-spec =
     word-from-requires-3
     size-from-requires-7
     size-from-requires-8
-    add-t18
+    word-from-requires-4
     add-t19
     add-t20
     add-t21
     add-t22
+    add-t23
     returns)

@@ -10,6 +10,9 @@ get-onc-clusters-with-draws-requires c κs = tt
 same-run-requires : tie.Need-same-run-requires
 same-run-requires c κs = (c .before .before .before .before .before .before .before .before .before .before .before .before .before .before .before .before .before .before .before .before .before .before .before .before .before .before .before .before .before .before .before .before .before .before .pre)
 
+shown-answer-requires : tie.Need-shown-answer-requires
+shown-answer-requires c κs = tt
+
 same-length : tie.Need-same-length
 same-length c = search needs
 
@@ -29,7 +32,7 @@ same-length-6 : tie.Need-same-length-6
 same-length-6 c = search needs
 
 returns : tie.Need-returns
-returns c = c .same-run .ensures ∙ ap (rightRun (c .before .before .before .before .before .before .before .before .before .before .before .before .before .before .before .before .before .before .before .before .before .before .before .before .before .before .before .before .before .before .before .before .before .before .before .args .text .now) (c .before .before .before .before .before .before .before .before .before .before .before .before .before .before .before .before .before .before .before .before .before .before .before .before .before .before .before .before .before .before .before .before .before .before .before .args .c)) (c .before .before .before .before .before .before .before .before .before .before .before .before .before .before .before .before .before .before .before .get-onc-clusters-with-draws .ensures)
+returns c = c .shown-answer .ensures ∙ c .before .same-run .ensures ∙ ap (rightRun (c .before .before .before .before .before .before .before .before .before .before .before .before .before .before .before .before .before .before .before .before .before .before .before .before .before .before .before .before .before .before .before .before .before .before .before .before .args .text .now) (c .before .before .before .before .before .before .before .before .before .before .before .before .before .before .before .before .before .before .before .before .before .before .before .before .before .before .before .before .before .before .before .before .before .before .before .before .args .c)) (c .before .before .before .before .before .before .before .before .before .before .before .before .before .before .before .before .before .before .before .before .get-onc-clusters-with-draws .ensures)
 
 pub right-run-spec : {M : Type 1} → statement M
 right-run-spec =
@@ -37,6 +40,7 @@ right-run-spec =
     (tie.spec
     get-onc-clusters-with-draws-requires
     same-run-requires
+    shown-answer-requires
     same-length
     same-length-2
     same-length-3

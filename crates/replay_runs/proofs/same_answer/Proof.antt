@@ -1,31 +1,24 @@
-use mathlib.Core.Path.{refl}
+use mathlib.Core.Path.{sym, _∙_, ap}
+use mathlib.Core.List.{List}
+use Prim.Native.Nat.{ℕ}
+use lib.ListN.{length}
+use Rattle.words.specs.Words.{sameNumbers}
 use Rattle.replay_runs.specs.Runs.{sameAnswer}
 use Rattle.replay_runs.proofs.same_answer.Statement.{statement}
 use Rattle.replay_runs.proofs.same_answer.Tie as tie
 
-number-of-requires : tie.Need-number-of-requires
-number-of-requires c κs = tt
-
-place-of-requires : tie.Need-place-of-requires
-place-of-requires c κs = tt
-
-groups-of-requires : tie.Need-groups-of-requires
-groups-of-requires c κs = tt
-
-read-of-requires : tie.Need-read-of-requires
-read-of-requires c κs = tt
+answer-of-requires : tie.Need-answer-of-requires
+answer-of-requires c κs = tt
 
 slice-aggregate-same-numbers : tie.Need-slice-aggregate-same-numbers
-slice-aggregate-same-numbers c = refl
+slice-aggregate-same-numbers c = sym (ap (λ (l : List ℕ). length l) (c .before .answer-of .ensures))
 
 same-numbers-requires : tie.Need-same-numbers-requires
 same-numbers-requires c κs = tt
 
 returns : tie.Need-returns
 unfolding sameAnswer
-returns c = rw (← c .before .before .before .before .before .number-of .ensures, ← c .before .before .before .before .place-of .ensures, ← c .before .before .before .groups-of .ensures, ← c .before .before .read-of .ensures) (c .same-numbers .ensures)
+returns c = c .same-numbers .ensures ∙ ap (sameNumbers _ _) (c .before .before .answer-of .ensures)
 
 pub same-answer-spec : {M : Type 1} → statement M
-same-answer-spec =
-    tie.close
-    (tie.spec number-of-requires place-of-requires groups-of-requires read-of-requires slice-aggregate-same-numbers same-numbers-requires returns)
+same-answer-spec = tie.close (tie.spec answer-of-requires slice-aggregate-same-numbers same-numbers-requires returns)

@@ -5,7 +5,7 @@ use Rattle.replay_runs.proofs.text_buffer.Statement.{statement}
 use Rattle.replay_runs.proofs.text_buffer.Tie as tie
 
 returns : tie.Need-returns
-returns c = sym (length-replicate {A = ℕ} 1310720 0)
+returns c = sym (length-replicate {A = ℕ} 1572864 0)
 
 pub text-buffer-spec : {M : Type 1} → statement M
 text-buffer-spec = tie.close (tie.spec returns)

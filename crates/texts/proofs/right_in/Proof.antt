@@ -1,4 +1,4 @@
-use mathlib.Core.Path.{sym}
+use mathlib.Core.Path.{sym, _∙_}
 use lib.Seq.{length-take-le}
 use borrow.Author.Needs.{needs}
 use Rattle.texts.proofs.Laws.{printed, right-text}
@@ -12,19 +12,28 @@ bytes-of-requires : tie.Need-bytes-of-requires
 bytes-of-requires c κs = tt
 
 slice-reshare-prefix-same-bytes : tie.Need-slice-reshare-prefix-same-bytes
-slice-reshare-prefix-same-bytes c = printed (c .before .before .before .before .before .before .before .before .args .text .now) (c .before .before .before .before .before .before .before .before .args .out .now) (c .before .before .before .answer-to .last .1 .0) (c .before .before .before .answer-to .result) (c .before .before .before .before .before .before .before .before .pre) (c .before .before .before .answer-to .ensures) (c .bytes-of .ensures) .within
+slice-reshare-prefix-same-bytes c = (let s = c .before .before .before .before .before .before .before .before in let a = c .before .before .before .answer-to in printed (s .args .text .now) (s .args .out .now) (a .last .1 .0) (a .result) (s .pre) (a .ensures) (c .bytes-of .ensures)) .within
 
 slice-aggregate-same-bytes : tie.Need-slice-aggregate-same-bytes
-slice-aggregate-same-bytes c = sym (length-take-le _ _ (printed (c .before .before .before .before .before .before .before .before .before .args .text .now) (c .before .before .before .before .before .before .before .before .before .args .out .now) (c .before .before .before .before .answer-to .last .1 .0) (c .before .before .before .before .answer-to .result) (c .before .before .before .before .before .before .before .before .before .pre) (c .before .before .before .before .answer-to .ensures) (c .before .bytes-of .ensures) .within))
+slice-aggregate-same-bytes c = sym (length-take-le _ _ ((let s = c .before .before .before .before .before .before .before .before .before in let a = c .before .before .before .before .answer-to in printed (s .args .text .now) (s .args .out .now) (a .last .1 .0) (a .result) (s .pre) (a .ensures) (c .before .bytes-of .ensures)) .within))
 
 same-bytes-requires : tie.Need-same-bytes-requires
 same-bytes-requires c κs = tt
+
+slice-reshare-prefix-shown-text : tie.Need-slice-reshare-prefix-shown-text
+slice-reshare-prefix-shown-text c = (let s = c .before .before .before .before .before .before .before .before .before .before in let a = c .before .before .before .before .before .answer-to in printed (s .args .text .now) (s .args .out .now) (a .last .1 .0) (a .result) (s .pre) (a .ensures) (c .before .before .bytes-of .ensures)) .within
+
+slice-aggregate-shown-text : tie.Need-slice-aggregate-shown-text
+slice-aggregate-shown-text c = sym (length-take-le _ _ ((let s = c .before .before .before .before .before .before .before .before .before .before .before in let a = c .before .before .before .before .before .before .answer-to in printed (s .args .text .now) (s .args .out .now) (a .last .1 .0) (a .result) (s .pre) (a .ensures) (c .before .before .before .bytes-of .ensures)) .within))
+
+shown-text-requires : tie.Need-shown-text-requires
+shown-text-requires c κs = tt
 
 same-length : tie.Need-same-length
 same-length c = search needs
 
 returns : tie.Need-returns
-returns c = right-text (c .before .before .before .before .before .before .before .before .before .before .args .text .now) (c .before .before .before .before .before .before .before .before .before .before .args .answer .now) (printed (c .before .before .before .before .before .before .before .before .before .before .args .text .now) (c .before .before .before .before .before .before .before .before .before .before .args .out .now) (c .before .before .before .before .before .answer-to .last .1 .0) (c .before .before .before .before .before .answer-to .result) (c .before .before .before .before .before .before .before .before .before .before .pre) (c .before .before .before .before .before .answer-to .ensures) (c .before .before .bytes-of .ensures)) (c .same-bytes .ensures)
+returns c = let t = c .before .before .before .before .before .before .before .before .before .before .before .before .args in right-text (t .text .now) (t .answer .now) (let s = c .before .before .before .before .before .before .before .before .before .before .before .before in let a = c .before .before .before .before .before .before .before .answer-to in printed (s .args .text .now) (s .args .out .now) (a .last .1 .0) (a .result) (s .pre) (a .ensures) (c .before .before .before .before .bytes-of .ensures)) (c .shown-text .ensures ∙ c .before .before .same-bytes .ensures)
 
 pub right-in-spec : {M : Type 1} → statement M
 right-in-spec =
@@ -35,5 +44,8 @@ right-in-spec =
     slice-reshare-prefix-same-bytes
     slice-aggregate-same-bytes
     same-bytes-requires
+    slice-reshare-prefix-shown-text
+    slice-aggregate-shown-text
+    shown-text-requires
     same-length
     returns)

@@ -23,14 +23,14 @@ read-case-requires c κs = (omega arith, c .before .before .before .pre)
 right-case-requires : tie.Need-right-case-requires Inv-loop μ-loop
 right-case-requires c κs = (c .read-case .ensures .2, c .before .before .before .before .pre)
 
+add-next : tie.Need-add-next Inv-loop μ-loop
+add-next c = omega (arith, c .before .before .read-case .ensures .2, c .before .before .before .before .before .before .pre)
+
+add-next-2 : tie.Need-add-next-2 Inv-loop μ-loop
+add-next-2 c = omega (arith, c .before .before .before .read-case .ensures .2, c .before .before .before .before .before .before .before .pre)
+
 counted-requires : tie.Need-counted-requires Inv-loop μ-loop
-counted-requires c κs = omega (arith, c .before .before .before .before .before .pre)
-
-add-at : tie.Need-add-at Inv-loop μ-loop
-add-at c = omega (arith, c .before .before .before .read-case .ensures .2, c .before .before .before .before .before .before .before .pre)
-
-add-at-2 : tie.Need-add-at-2 Inv-loop μ-loop
-add-at-2 c = omega (arith, c .before .before .before .before .read-case .ensures .2, c .before .before .before .before .before .before .before .before .pre)
+counted-requires c κs = omega (arith, c .before .before .before .before .before .before .before .pre)
 
 loop-less : tie.Need-loop-less Inv-loop μ-loop
 loop-less c = omega (arith, c .before .before .before .before .read-case .ensures .1)
@@ -39,7 +39,7 @@ loop-again : tie.Need-loop-again Inv-loop μ-loop
 loop-again c =
     let i = c .before .before .before .before .before .before .loop .inv in
     let e = c .before .before .before .before .read-case .ensures in
-    (i .0, counted-more _ _ _ _ (i .1) (c .before .before .before .before .before .loop-test .taken) (e .0) (omega (arith, e .1)) (c .before .before .before .right-case .ensures) (c .before .before .counted .ensures))
+    (i .0, counted-more _ _ _ _ (i .1) (c .before .before .before .before .before .loop-test .taken) (e .0) (omega (arith, e .1)) (c .before .before .before .right-case .ensures) (c .counted .ensures))
 
 returns : tie.Need-returns Inv-loop μ-loop
 unfolding countsIn
@@ -54,9 +54,9 @@ run-spec =
     loop-holds
     read-case-requires
     right-case-requires
+    add-next
+    add-next-2
     counted-requires
-    add-at
-    add-at-2
     loop-less
     loop-again
     returns)

@@ -1,7 +1,7 @@
 use native.Mathlib.Omega.{arith}
 use borrow.Author.Tests.{le-ltb, lt-ltb}
 use borrow.Author.Needs.{needs}
-use Rattle.words.specs.Words.{digitOf}
+use Rattle.words.specs.Words.{hexDigitOf}
 use Rattle.words.proofs.hex_digit.Statement.{statement}
 use Rattle.words.proofs.hex_digit.Tie as tie
 
@@ -9,7 +9,7 @@ cast-result : tie.Need-cast-result
 cast-result c = omega arith
 
 returns : tie.Need-returns
-unfolding digitOf
+unfolding hexDigitOf
 returns c = (rw (lt-ltb _ _ (c .if1 .taken)), search needs)
 
 add-result : tie.Need-add-result
@@ -19,7 +19,7 @@ cast-result-2 : tie.Need-cast-result-2
 cast-result-2 c = omega arith
 
 returns-2 : tie.Need-returns-2
-unfolding digitOf
+unfolding hexDigitOf
 returns-2 c = (rw (le-ltb _ _ (c .if1 .left)), search needs)
 
 pub hex-digit-spec : {M : Type 1} → statement M

@@ -1,8 +1,9 @@
 //! Writes the runs that the program `replay_runs` runs: run.sh record > crates/replay_runs/stdin
 //! Groupings are the unchanged Rust's with these draws; 7, 8 and 9 are where its draws or its rounds end; 1, 2, 4, 5 and 6 are the table's.
-//! The layout stands in crates/replay_runs/src/main.rt. What was recorded is counted on standard error.
-use grouping_harness::books::{made_up, of_kind, pairs, KINDS};
-use grouping_harness::call::{by_rust, expected, silence, Answer, Call};
+//! The layout stands in crates/replay_runs/src/main.rt. With the argument `kinds` it writes the table of the kinds instead, each with its number
+//! and how many runs it has: run.sh record-kinds > crates/replay_runs/kinds.txt
+use grouping_harness::books::{made_up, named, of_kind, pairs, KINDS};
+use grouping_harness::call::{bits, by_rust, expected, silence, Answer, Call};
 use kmeans_harness::books::matrix;
 use kmeans_harness::random::Random;
 use openquant::onc_leaf::open;
@@ -19,17 +20,55 @@ fn bits_of(book: &[f64]) -> Vec<u64> {
 
 #[derive(Default)]
 struct Recorder {
-    counts: BTreeMap<String, usize>,
-    words: usize,
+    /// Whether the runs are only counted, not written.
+    quiet: bool,
+    /// The kinds and how many runs each has; a kind's number is its place, from 1.
+    kinds: Vec<(String, usize)>,
+    /// What the runs have, by names of their own: numbers answered, repeats, rounds, cells.
+    traits: BTreeMap<String, usize>,
     groupings: usize,
     /// The books that have a grouping, by their bits.
     grouped: BTreeSet<Vec<u64>>,
 }
 
 impl Recorder {
+    /// One run more of a kind; the kind's number.
+    fn count(&mut self, kind: &str) -> u64 {
+        let place = self.kinds.iter().position(|k| k.0 == kind).unwrap_or(self.kinds.len());
+        if place == self.kinds.len() {
+            self.kinds.push((kind.into(), 0));
+        }
+        self.kinds[place].1 += 1;
+        place as u64 + 1
+    }
+    /// Counts what a run answers and has.
+    fn count_traits(&mut self, call: &Call, want: &Answer) {
+        let n = call.rows;
+        let cells = &call.book;
+        let mut traits = vec![format!("refused by {}", want.told[0])];
+        if want.outputs.is_some() {
+            let rounds = by_rust(cells, n, call.repeat, Source::List(call.draws.clone()), 0).1.rounds.len();
+            traits = vec![format!("groupings of {rounds} rounds")];
+            let asymmetric = (0..n * n).any(|c| bits(cells[c]) != bits(cells[c % n * n + c / n]));
+            for (name, has) in [
+                ("groupings with NaN cells", cells.iter().any(|x| x.is_nan())),
+                ("groupings with infinite cells", cells.iter().any(|x| x.is_infinite())),
+                ("groupings of books that are not symmetric", asymmetric),
+                ("groupings with repeats above 1", call.repeat > 1),
+            ] {
+                if has {
+                    traits.push(name.into());
+                }
+            }
+        }
+        for name in traits {
+            *self.traits.entry(name).or_default() += 1;
+        }
+    }
     fn write(&mut self, kind: &str, call: &Call, want: &Answer) {
         let mut words: Vec<u64> = [call.rows, call.cols, call.repeat, call.book.len(), call.draws.len()].map(|x| x as u64).to_vec();
         words.extend(call.lent[..6].iter().map(|&x| x as u64));
+        words.push(self.count(kind));
         words.extend(call.book.iter().map(|x| x.to_bits()));
         words.extend(&call.draws);
         words.extend(want.told.map(|x| x as u64));
@@ -41,15 +80,14 @@ impl Recorder {
                 }
             }
         }
-        for w in &words {
-            println!("{w:016x}");
+        if !self.quiet {
+            words.iter().for_each(|w| println!("{w:016x}"));
         }
-        self.words += words.len();
         if want.outputs.is_some() {
             self.groupings += 1;
             self.grouped.insert(bits_of(&call.book));
         }
-        *self.counts.entry(kind.into()).or_default() += 1;
+        self.count_traits(call, want);
     }
     /// Writes a call with room behind the working lists, as it must be answered.
     fn call(&mut self, kind: &str, call: &Call) {
@@ -60,7 +98,7 @@ impl Recorder {
         self.write(kind, &call, &want);
     }
     fn has(&self, kind: &str) -> usize {
-        self.counts.get(kind).copied().unwrap_or(0)
+        self.kinds.iter().find(|k| k.0 == kind).map_or(0, |k| k.1)
     }
 }
 
@@ -74,14 +112,38 @@ fn seeded(r: &mut Random, book: Vec<f64>, n: usize, repeat: usize) -> (Call, Vec
     seeded_by(r.bits(), book, n, repeat)
 }
 
-/// Whether the run answers something else than its first round's base: then a re-clustering was kept.
-fn kept(call: &Call) -> bool {
-    let rows = matrix(&call.book, call.rows);
-    install(Control::new(Source::List(call.draws.clone()), call.repeat as u64, 32));
-    let base = open::base(&rows, (call.rows - 1).max(2), call.repeat, &mut StdRng::seed_from_u64(0));
+/// A partition as its order and its sizes.
+fn listed(clusters: &BTreeMap<usize, Vec<usize>>, n: usize) -> [Vec<u64>; 2] {
+    let order = clusters.values().flatten().map(|&i| i as u64).collect();
+    let mut sizes: Vec<u64> = clusters.values().map(|g| g.len() as u64).collect();
+    sizes.resize(n, 0);
+    [order, sizes]
+}
+
+/// Of a run of two rounds, whether its re-clustering was kept: then it answers the partition with the weak groups clustered again, else its
+/// first round's base. None where the two partitions are equal, or the run has no grouping.
+fn kept(call: &Call) -> Option<bool> {
+    let (n, repeat) = (call.rows, call.repeat);
+    let rows = matrix(&call.book, n);
+    let [order, sizes, _, _] = expected(call).outputs?;
+    install(Control::new(Source::List(call.draws.clone()), repeat as u64, 32));
+    let mut rng = StdRng::seed_from_u64(0);
+    let base = open::base(&rows, (n - 1).max(2), repeat, &mut rng).unwrap();
+    let quality = |group: &Vec<usize>| open::tstat(&group.iter().map(|&i| base.scores[i]).collect::<Vec<f64>>());
+    let average = base.clusters.values().map(quality).sum::<f64>() / base.clusters.len() as f64;
+    let (weak, strong): (BTreeMap<_, _>, BTreeMap<_, _>) = base.clusters.clone().into_iter().partition(|(_, group)| quality(group) < average);
+    let redo: Vec<usize> = weak.into_values().flatten().collect();
+    let inner = open::base(&open::submatrix(&rows, &redo), (redo.len() - 1).max(2), repeat, &mut rng).unwrap();
     install(Control::plain());
-    let order: Vec<u64> = base.unwrap().clusters.values().flatten().map(|&i| i as u64).collect();
-    expected(call).outputs.is_some_and(|o| o[0] != order)
+    let again = inner.clusters.into_iter().map(|(k, group)| (k, group.into_iter().map(|i| redo[i]).collect())).collect();
+    let new = listed(&open::improve(&rows, &strong, &again).unwrap().clusters, n);
+    let old = listed(&base.clusters, n);
+    if new == old {
+        return None;
+    }
+    let found = [order, sizes];
+    assert!(found == new || found == old, "the answer is neither partition");
+    Some(found == new)
 }
 
 /// The examples that the source publishes of its grouping, with the groups that it names for them, by their least members.
@@ -174,20 +236,21 @@ fn every_kind(w: &mut Recorder, r: &mut Random) {
 
 /// Runs of two rounds and more, with their re-clusterings kept and not; and what ends such a run.
 fn several_rounds(w: &mut Recorder, r: &mut Random) {
-    let enough = [("re-clustering kept", 40), ("re-clustering not kept", 40), ("three rounds or more", 16)];
+    let enough = [("re-clustering kept", 40), ("re-clustering not kept", 40), ("three rounds", 16)];
     let mut ends = 0;
     while enough.iter().any(|&(kind, most)| w.has(kind) < most) {
         let n = r.one_of(&[5, 6, 6, 7, 7, 8]);
         let repeat = r.one_of(&[1, 1, 1, 1, 2]);
         let book = made_up(r, n);
         let (call, rounds) = seeded(r, book, n, repeat);
-        if rounds.len() < 2 || rounds.len() > 5 {
-            continue;
-        }
-        let kind = match (rounds.len(), kept(&call)) {
-            (2, true) => 0,
-            (2, false) => 1,
-            _ => 2,
+        let kind = match rounds.len() {
+            2 => match kept(&call) {
+                Some(true) => 0,
+                Some(false) => 1,
+                None => continue,
+            },
+            3 => 2,
+            _ => continue,
         };
         let (kind, most) = enough[kind];
         if w.has(kind) >= most {
@@ -234,6 +297,21 @@ fn several_rounds(w: &mut Recorder, r: &mut Random) {
     }
 }
 
+/// Groupings of four rounds and of five, which few books have: books of 8 to 12 names are tried until there are enough.
+fn many_rounds(w: &mut Recorder, r: &mut Random) {
+    let enough = [(4, "four rounds", 5), (5, "five rounds", 3)];
+    while enough.iter().any(|&(_, kind, most)| w.has(kind) < most) {
+        let n = r.from(8, 12);
+        let (_, book) = named(r, n);
+        let (call, rounds) = seeded(r, book, n, 1);
+        for (count, kind, most) in enough {
+            if rounds.len() == count && w.has(kind) < most && expected(&call).outputs.is_some() {
+                w.call(kind, &call);
+            }
+        }
+    }
+}
+
 /// Books of 2 to 4 names of every kind that are not recorded yet, until so many distinct books have a grouping.
 fn small_books(w: &mut Recorder, r: &mut Random, enough: usize) {
     for turn in 0.. {
@@ -257,15 +335,23 @@ fn small_books(w: &mut Recorder, r: &mut Random, enough: usize) {
 
 fn main() {
     silence();
-    let mut w = Recorder::default();
+    let quiet = std::env::args().nth(1).as_deref() == Some("kinds");
+    let mut w = Recorder { quiet, ..Recorder::default() };
     let mut r = Random::new(5);
     chosen(&mut w);
     every_kind(&mut w, &mut r);
     several_rounds(&mut w, &mut r);
+    many_rounds(&mut w, &mut r);
     small_books(&mut w, &mut r, 322);
-    for (kind, count) in &w.counts {
-        eprintln!("{count:6} {kind}");
+    if !quiet {
+        return;
     }
-    eprintln!("{:6} runs, {} words", w.counts.values().sum::<usize>(), w.words);
-    eprintln!("{:6} groupings, of {} distinct books", w.groupings, w.grouped.len());
+    println!("The kinds of the recorded runs: number, runs, name.");
+    for (place, (kind, runs)) in w.kinds.iter().enumerate() {
+        println!("{:4} {runs:4}  {kind}", place + 1);
+    }
+    println!("In all {} runs, {} of them groupings, of {} distinct books; by what they answer and have:", w.kinds.iter().map(|k| k.1).sum::<usize>(), w.groupings, w.grouped.len());
+    for (name, runs) in &w.traits {
+        println!("     {runs:4}  {name}");
+    }
 }

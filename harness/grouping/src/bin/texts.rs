@@ -1,5 +1,5 @@
 //! Texts for the grouping program, proper and damaged. Usage: see run.sh.
-//!   texts texts [SEED] [TEXTS]   runs PROGRAM on TEXTS texts (10000) and compares what it prints; the status is 0 if none differs
+//!   texts texts [SEED] [TEXTS]   runs PROGRAM on texts until TEXTS of them (10000) were changed; compares what it prints; the status is 0 if none differs
 //!   texts record-texts           writes texts with what must be printed, for the program `texts`; the layout stands in crates/texts/src/main.rt
 //! What must be printed is the unchanged Rust's answer where a plain reading by lines finds the text in the layout, and refusal 11 elsewhere.
 use grouping_harness::books::made_up;
@@ -157,12 +157,24 @@ fn damaged(r: &mut Random, text: &[u8]) -> (&'static str, Vec<u8>) {
     }
 }
 
-/// Requests at and just over the limits, whole but for that: names, count of draws and their digits. The last is the longest text of the layout.
+/// Requests at and just over the limits, whole but for that: names, repeats, count of draws and their digits. The last is the longest text of
+/// the layout.
 fn at_limits() -> Vec<Vec<u8>> {
     let mut texts = Vec::new();
-    for (names, draws, digits) in [(12, 208, 1), (13, 208, 1), (2, 1024, 1), (2, 1025, 1), (2, 3, 19), (2, 3, 20), (12, 1024, 19)] {
+    let most = u32::MAX as usize;
+    for (names, repeats, draws, digits) in [
+        (12, 1, 208, 1),
+        (13, 1, 208, 1),
+        (2, 1, 1024, 1),
+        (2, 1, 1025, 1),
+        (2, 1, 3, 19),
+        (2, 1, 3, 20),
+        (2, most, 3, 1),
+        (2, most + 1, 3, 1),
+        (12, most, 1024, 19),
+    ] {
         let cells = (0..names * names).map(|c| f64::from(u8::from(c / names == c % names)).to_bits()).collect();
-        let request = Request { names, repeats: 1, cells, draws: vec![0; draws] };
+        let request = Request { names, repeats, cells, draws: vec![0; draws] };
         let text = String::from_utf8(write(&request)).unwrap();
         let (head, _) = text.trim_end().rsplit_once('\n').unwrap();
         let line = vec!["0".repeat(digits); draws].join(" ");
@@ -184,12 +196,19 @@ fn compare(program: &str, seed: u64, texts: usize) -> bool {
     let mut r = Random::new(seed);
     let mut counts: BTreeMap<&str, [usize; 3]> = BTreeMap::new();
     let mut made = at_limits().into_iter();
-    for _ in 0..texts {
+    let mut changed = 0;
+    while changed < texts {
         let (kind, text) = match made.next() {
             Some(text) => ("at a limit", text),
             None => {
                 let text = write(&request(&mut r));
-                damaged(&mut r, &text)
+                match damaged(&mut r, &text) {
+                    (_, other) if other == text => ("as it is", other),
+                    (kind, other) => {
+                        changed += 1;
+                        (kind, other)
+                    }
+                }
             }
         };
         let want = answer(&text);
@@ -210,7 +229,7 @@ fn compare(program: &str, seed: u64, texts: usize) -> bool {
             *t += x;
         }
     }
-    println!("{} texts compared, {} in the layout, {} differ", total[0], total[1], total[2]);
+    println!("{} texts compared, {changed} of them changed, {} in the layout, {} differ", total[0], total[1], total[2]);
     total[2] == 0
 }
 
@@ -221,7 +240,8 @@ fn record(out: &mut impl Write, text: &[u8]) {
     out.write_all(want.as_bytes()).unwrap();
 }
 
-/// A worked example and damages of each byte of it, books of 4 to 12 names, made-up texts while they are short, and texts at the limits.
+/// A worked example and damages of each byte of it, the README's example of four names, books of 4 to 12 names, made-up texts while they are
+/// short, and texts at the limits.
 fn record_texts() {
     let out = &mut std::io::stdout().lock();
     let example = b"2 1 3\n3ff0000000000000 0000000000000000 0000000000000000 3ff0000000000000\n0 0 4503599627370496\n";
@@ -236,6 +256,9 @@ fn record_texts() {
             record(out, &changed);
         }
     }
+    let pairs = |c: usize| [1.0, 0.875, 0.125][if c / 4 == c % 4 { 0 } else if c / 8 == c % 4 / 2 { 1 } else { 2 }];
+    let four = Request { names: 4, repeats: 1, cells: (0..16).map(|c| f64::to_bits(pairs(c))).collect(), draws: vec![0; 10] };
+    record(out, &write(&four));
     let mut r = Random::new(11);
     for names in 4..=12 {
         for _ in 0..2 {

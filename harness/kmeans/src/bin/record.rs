@@ -1,4 +1,5 @@
-//! Writes the cases that the program `replay` runs, as the unchanged Rust answers them: run.sh record > crates/replay/stdin
+//! Writes the cases that the program `replay` runs: run.sh record > crates/replay/stdin
+//! Centres, labels and 8 are the unchanged Rust's with these draws; 2, 4, 5, 6, 7, 10 and 29 are the table's.
 //! The layout stands in crates/replay/src/main.rt.
 use kmeans_harness::books::{distances, Book, BOOKS};
 use kmeans_harness::draws::{in_range, limit, Draws};
@@ -94,7 +95,7 @@ fn in_a_line(places: &[f64]) -> Vec<f64> {
 
 /// Books on which a rule of the definitions decides.
 fn edges(r: &mut Random) {
-    // labels that swing for 300 passes, since three times x times (1/3) is not x
+    // labels that change in each of the 300 passes, since three times x times (1/3) is not x
     for (n, cell) in [(3, 0.1), (3, 0.7), (6, 0.1), (2, 0.1)] {
         let points = distances(&vec![cell; n * n], n);
         leaf(Leaf::Labels, &points, n, &[0, 0, 0], 2);
