@@ -73,6 +73,10 @@ firstFault cells n = firstTo (λ t. ltb 0 (causeAt cells n t)) (n * n)
 unfoldable pub faultOf : List ℤ → ℕ → Refusal
 faultOf cells n = when (ltb (firstFault cells n) (n * n)) (record { number = causeAt cells n (firstFault cells n); place = firstFault cells n }) none
 
--- the answer for a book of so many rows and columns: 2, 4 and 5 by its shape, then its cells
+-- the shape of a book of so many rows, columns and cells: 2, 4 or 5, then 6 where the other lists of the call do not fit
+abbrev pub shapeOf : ℕ → ℕ → ℕ → Bool → Refusal
+shapeOf rows cols cells fits = unless (eqb rows cols) (refused 2) (refusal cells rows rows fits 0 0)
+
+-- the answer for a book of so many rows and columns: its shape, then its cells
 unfoldable pub intakeOf : List ℤ → ℕ → ℕ → Refusal
-intakeOf cells rows cols = orElse (unless (eqb rows cols) (refused 2) (refusal (length cells) rows rows true 0 0)) (faultOf cells rows)
+intakeOf cells rows cols = orElse (shapeOf rows cols (length cells) true) (faultOf cells rows)

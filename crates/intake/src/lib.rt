@@ -2,7 +2,9 @@
 ghost use Prim.Native.Nat.{_*_, _<_, _≤_};
 ghost use mathlib.Core.Path.{_≡_};
 ghost use lib.ListN.{length};
-ghost use Rattle.intake.specs.Intake.{numberOf, placeOf, refusalOf, sameZ, inRange, onDiagonal, causeOf, causeAt, firstFault, faultOf, intakeOf};
+ghost use Rattle.intake.specs.Intake.{numberOf, placeOf, refusalOf, sameZ, inRange, onDiagonal, causeOf, causeAt, firstFault, faultOf, shapeOf, intakeOf};
+ghost use Rattle.refusals.specs.Table.{refusalOf as shapeRefusalOf};
+use refusals::Answer;
 
 // A proper book, or the first row of the table that applies. The last three hold the cell's place, row times n plus column.
 pub enum Intake {
@@ -133,20 +135,28 @@ fn check_cells(cells: &[i64], n: usize) -> Intake
     Intake::Mirror(t)
 }
 
+// The shape of a book of so many rows, columns and cells: 2, 4 or 5, then 6 where the other lists of the call do not fit.
+pub fn check_shape(rows: usize, cols: usize, cells: usize, fits: bool) -> Answer
+    ensures { λ r. ⌜ shapeRefusalOf r ≡ shapeOf rows cols cells fits ⌝ }
+{
+    if rows != cols {
+        return Answer::InvalidCorrelationMatrix;
+    }
+    refusals::check(cells, rows, rows, fits, 0, 0)
+}
+
 // Whether a book of so many rows and columns, its cells in whole millionths row by row, is proper; if not, why and where.
 pub fn check_book(cells: &[i64], rows: usize, cols: usize) -> Intake
     ensures { λ r. ⌜ refusalOf r ≡ intakeOf (now (cells .entry)) rows cols ⌝ }
 {
-    if rows != cols {
+    let shape = refusals::number_of(check_shape(rows, cols, cells.len(), true));
+    if shape == 2 {
         return Intake::InvalidCorrelationMatrix;
     }
-    if rows < 2 {
-        return Intake::InvalidCorrelationMatrix;
-    }
-    if rows > 256 {
+    if shape == 4 {
         return Intake::TooLarge;
     }
-    if cells.len() != rows * rows {
+    if shape != 0 {
         return Intake::CellCount;
     }
     check_cells(cells, rows)

@@ -4,7 +4,8 @@ use mathlib.Core.Bool.{false, cond}
 use mathlib.Core.List.{List, [], _∷_}
 use lib.Dec.{eqb}
 use lib.ListN.{length}
-use Rattle.refusals.specs.Table.{Refusal, refused, unless, refusal}
+use Rattle.refusals.specs.Table.{Refusal}
+use Rattle.intake.specs.Intake.{shapeOf}
 
 -- the value, and the list after the call
 pub record BookReport : Type 0 where
@@ -13,7 +14,7 @@ pub record BookReport : Type 0 where
 
 -- a list of wrong length: 6, or 2, 4 or 5 by the book's shape, which come first
 unfoldable pub bookShape : ℕ → ℕ → ℕ → Refusal
-bookShape rows cols cells = unless (eqb rows cols) (refused 2) (refusal cells rows rows false 0 0)
+bookShape rows cols cells = shapeOf rows cols cells false
 
 -- The number and the place of `intake`, in `answer`. If that has another length than 2 it is an output list of wrong length: the call is
 -- refused by `shape`, ahead of 21, 22 and 23, and the list is as it was.

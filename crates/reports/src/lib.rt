@@ -89,8 +89,5 @@ pub fn book_refused(rows: usize, cols: usize, cells: usize, places: usize) -> us
     if places == 2 {
         return 0;
     }
-    if rows != cols {
-        return 2;
-    }
-    refusals::number_of(refusals::check(cells, rows, rows, false, 0, 0))
+    refusals::number_of(intake::check_shape(rows, cols, cells, false))
 }

@@ -1,38 +1,31 @@
+use mathlib.Core.Path.{sym, ap, _∙_}
 use native.Mathlib.Omega.{arith}
-use borrow.Author.Tests.{eq-eqb, le-ltb, lt-ltb, ne-eqb}
-use Rattle.intake.specs.Intake.{intakeOf}
-use Rattle.refusals.specs.Table.{orElse, refusal, unless, when}
-use Rattle.lists.proofs.Grid.{square-small}
+use Rattle.refusals.specs.Table.{Refusal}
+use Rattle.intake.proofs.Shape.{shape-refuses, shape-fifth, shape-passes, shape-fits}
 use Rattle.intake.proofs.check_book.Statement.{statement}
 use Rattle.intake.proofs.check_book.Tie as tie
 
+check-shape-requires : tie.Need-check-shape-requires
+check-shape-requires c κs = tt
+
+number-of-requires : tie.Need-number-of-requires
+number-of-requires c κs = tt
+
 returns : tie.Need-returns
-unfolding intakeOf orElse unless
-returns c = rw (ne-eqb _ _ (c .if1 .taken))
+returns c = shape-refuses (c .before .before .before .args .cells .now) (c .before .before .before .args .rows) (c .before .before .before .args .cols) (ap (λ (q : Refusal). q .number) (sym (c .before .before .check-shape .ensures)) ∙ sym (c .before .number-of .ensures) ∙ c .if1 .taken) (λ z. omega (arith, z))
 
 returns-2 : tie.Need-returns-2
-unfolding intakeOf orElse refusal when unless
-returns-2 c = rw (eq-eqb _ _ (c .before .if1 .left), lt-ltb _ _ (c .if2 .taken))
+returns-2 c = shape-refuses (c .before .before .before .before .args .cells .now) (c .before .before .before .before .args .rows) (c .before .before .before .before .args .cols) (ap (λ (q : Refusal). q .number) (sym (c .before .before .before .check-shape .ensures)) ∙ sym (c .before .before .number-of .ensures) ∙ c .if2 .taken) (λ z. omega (arith, z))
 
 returns-3 : tie.Need-returns-3
-unfolding intakeOf orElse refusal when unless
-returns-3 c = rw (eq-eqb _ _ (c .before .before .if1 .left), le-ltb _ _ (c .before .if2 .left), lt-ltb _ _ (c .if3 .taken))
-
-mul-if4 : tie.Need-mul-if4
-mul-if4 c = omega (arith, square-small (c .before .before .before .args .rows) (c .if3 .left))
-
-returns-4 : tie.Need-returns-4
-unfolding intakeOf orElse refusal when unless
-returns-4 c = rw (eq-eqb _ _ (c .before .before .before .if1 .left), le-ltb _ _ (c .before .before .if2 .left), le-ltb _ _ (c .before .if3 .left), ne-eqb _ _ (c .if4 .taken))
+returns-3 c = shape-fifth (c .before .before .before .before .before .args .cells .now) (c .before .before .before .before .before .args .rows) (c .before .before .before .before .before .args .cols) (ap (λ (q : Refusal). q .number) (sym (c .before .before .before .before .check-shape .ensures)) ∙ sym (c .before .before .before .number-of .ensures)) (c .if3 .taken) (c .before .before .if1 .left) (c .before .if2 .left)
 
 check-cells-requires : tie.Need-check-cells-requires
-check-cells-requires c κs = (c .before .if3 .left, c .if4 .left)
+check-cells-requires c κs = shape-fits (c .before .before .before .before .before .args .cells .now) (c .before .before .before .before .before .args .rows) (c .before .before .before .before .before .args .cols) (ap (λ (q : Refusal). q .number) (sym (c .before .before .before .before .check-shape .ensures)) ∙ sym (c .before .before .before .number-of .ensures) ∙ c .if3 .left)
 
-returns-5 : tie.Need-returns-5
-unfolding intakeOf orElse refusal when unless
-returns-5 c = rw (eq-eqb _ _ (c .before .before .before .before .if1 .left), le-ltb _ _ (c .before .before .before .if2 .left), le-ltb _ _ (c .before .before .if3 .left), eq-eqb _ _ (c .before .if4 .left)) (c .check-cells .ensures)
+returns-4 : tie.Need-returns-4
+returns-4 c = shape-passes (c .before .before .before .before .before .before .args .cells .now) (c .before .before .before .before .before .before .args .rows) (c .before .before .before .before .before .before .args .cols) (ap (λ (q : Refusal). q .number) (sym (c .before .before .before .before .before .check-shape .ensures)) ∙ sym (c .before .before .before .before .number-of .ensures) ∙ c .before .if3 .left) (c .check-cells .ensures)
 
 pub check-book-spec : {M : Type 1} → statement M
 check-book-spec =
-    tie.close
-    (tie.spec returns returns-2 returns-3 mul-if4 returns-4 check-cells-requires returns-5)
+    tie.close (tie.spec check-shape-requires number-of-requires returns returns-2 returns-3 check-cells-requires returns-4)
