@@ -47,6 +47,9 @@ ten-first x h l e = first-some 20 x h l (rw (width-ten x) at e)
 pub digits-claim : DigitsClaim
 digits-claim =
     record {
+      width-length = length-digits;
+      width-digits = λ b k x j z h l. digits-at b z h k x j l;
+      width-spells = λ b k x z h l. spelled-alone b z h k x l;
       hex-length = hex-length;
       hex-digits = hex-digits;
       hex-spells = hex-spells;
