@@ -4,7 +4,7 @@ ghost use Prim.Native.Nat.{_≤_, _<_, _+_, _*_};
 ghost use lib.ListN.{length, take, drop};
 ghost use Rattle.columns.specs.Columns.{pointsAt};
 ghost use Rattle.draws.specs.Counts.{seedingOf, countOf};
-ghost use Rattle.seeding.specs.Seeding.{Seedable};
+ghost use Rattle.seeding.specs.Seeding.{MaySeed};
 ghost use Rattle.scoring.specs.Scoring.{Prepared};
 ghost use Rattle.candidates.specs.Candidates.{candidateFrom, triesFrom, tries, bestOf};
 ghost use Rattle.candidates.specs.Steps.{TriedBy, SearchedBy, Enough, Lists, bestFrom, replacesKept};
@@ -58,7 +58,7 @@ fn candidate(
     labels: &mut [usize],
     scores: &mut [f64],
 ) -> Tried
-    requires { ⌜ Prepared (now area) m × Seedable m k (now draws) at × (length (now labels) ≡ m) × (length (now scores) ≡ m) ⌝ }
+    requires { ⌜ Prepared (now area) m × MaySeed m k (now draws) at × (length (now labels) ≡ m) × (length (now scores) ≡ m) ⌝ }
     ensures { λ r. ⌜ TriedBy (candidateFrom (pointsAt (now (area .entry)) m) m k at (drop at (now (draws .entry)))) (at + seedingOf k) r (now (labels .exit)) (now (scores .exit)) ⌝ }
     ensures { λ _. ⌜ take (4 * (m * m)) (now (area .exit)) ≡ take (4 * (m * m)) (now (area .entry)) ⌝ }
 {
@@ -86,7 +86,7 @@ fn try_k(
     new_labels: &mut [usize],
     new_scores: &mut [f64],
 ) -> Searched
-    requires { ⌜ Prepared (now area) m × Seedable m k (now draws) at × Lists m (now labels) (now scores) (now «new_labels») (now «new_scores») ⌝ }
+    requires { ⌜ Prepared (now area) m × MaySeed m k (now draws) at × Lists m (now labels) (now scores) (now «new_labels») (now «new_scores») ⌝ }
     ensures { λ r. ⌜ SearchedBy (triesFrom (pointsAt (now (area .entry)) m) m k 1 (bestFrom kept (now (labels .entry)) (now (scores .entry))) at (drop at (now (draws .entry))))
         (at + seedingOf k) r (now (labels .exit)) (now (scores .exit)) ⌝ }
     ensures { λ _. ⌜ take (4 * (m * m)) (now (area .exit)) ≡ take (4 * (m * m)) (now (area .entry)) ⌝ }

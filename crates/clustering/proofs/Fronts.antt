@@ -11,7 +11,7 @@ use Rattle.lists.proofs.Parts.{front-less, part-front, part-length}
 use Rattle.columns.specs.Pair.{squaredAt}
 use Rattle.columns.specs.Columns.{pointsAt}
 use Rattle.pairs.specs.Regions.{Area, Turned, Summed}
-use Rattle.seeding.specs.Seeding.{Seedable, Ready}
+use Rattle.seeding.specs.Seeding.{MaySeed, Ready}
 use Rattle.lloyd.specs.Area.{Held}
 
 -- four areas and a fifth
@@ -71,7 +71,7 @@ module _ (area : List Float) (m : ℕ) (h : Held area m) where
   pub third-area : part (2 * (m * m)) (3 * (m * m) - 2 * (m * m)) area ≡ grid (squaredAt (pointsAt area m) m) m
   third-area = rw third-size (h .squares)
 
-  pub third-ready : (k : ℕ) (draws : List ℕ) (at : ℕ) → Seedable m k draws at → Ready (part (2 * (m * m)) (3 * (m * m) - 2 * (m * m)) area) m k draws at
+  pub third-ready : (k : ℕ) (draws : List ℕ) (at : ℕ) → MaySeed m k draws at → Ready (part (2 * (m * m)) (3 * (m * m) - 2 * (m * m)) area) m k draws at
   third-ready k draws at q =
       record {
         few = h .few;

@@ -5,7 +5,7 @@ ghost use lib.ListN.{length, take, drop};
 ghost use Rattle.columns.specs.Pair.{squaredAt};
 ghost use Rattle.columns.specs.Columns.{pointsAt};
 ghost use Rattle.draws.specs.Counts.{seedingOf};
-ghost use Rattle.seeding.specs.Seeding.{seeding, Seedable, SeededBy};
+ghost use Rattle.seeding.specs.Seeding.{seeding, MaySeed, SeededBy};
 ghost use Rattle.lloyd.specs.Area.{Held};
 ghost use Rattle.clustering.specs.Clustering.{kmeansOf};
 ghost use Rattle.clustering.specs.Steps.{ClusteredBy};
@@ -41,7 +41,7 @@ pub fn seed_in(
     centres: &mut [usize],
     weights: &mut [f64],
 ) -> Seeded
-    requires { ⌜ Held (now area) m × Seedable m (length (now centres)) (now draws) at × (length (now weights) ≡ m) ⌝ }
+    requires { ⌜ Held (now area) m × MaySeed m (length (now centres)) (now draws) at × (length (now weights) ≡ m) ⌝ }
     ensures { λ r. ⌜ SeededBy (seeding (squaredAt (pointsAt (now (area .entry)) m) m) m (length (now (centres .entry))) at (drop at (now (draws .entry))))
         (at + seedingOf (length (now (centres .entry)))) r (now (centres .exit)) ⌝ }
 {
@@ -60,7 +60,7 @@ fn cluster(
     centres: &mut [usize],
     weights: &mut [f64],
 ) -> Clustered
-    requires { ⌜ Held (now area) m × Seedable m (length (now centres)) (now draws) at × (length (now weights) ≡ m) × (length (now labels) ≡ m) ⌝ }
+    requires { ⌜ Held (now area) m × MaySeed m (length (now centres)) (now draws) at × (length (now weights) ≡ m) × (length (now labels) ≡ m) ⌝ }
     ensures { λ r. ⌜ ClusteredBy (kmeansOf (pointsAt (now (area .entry)) m) m (length (now (centres .entry))) at (drop at (now (draws .entry))))
         (at + seedingOf (length (now (centres .entry)))) (now (labels .entry)) r (now (labels .exit)) ⌝ }
     ensures { λ _. ⌜ take (4 * (m * m)) (now (area .exit)) ≡ take (4 * (m * m)) (now (area .entry)) ⌝ }
@@ -84,7 +84,7 @@ pub fn labels_in(
     at: usize,
     labels: &mut [usize],
 ) -> Clustered
-    requires { ⌜ Held (now area) m × Seedable m k (now draws) at × (length (now labels) ≡ m) ⌝ }
+    requires { ⌜ Held (now area) m × MaySeed m k (now draws) at × (length (now labels) ≡ m) ⌝ }
     ensures { λ r. ⌜ ClusteredBy (kmeansOf (pointsAt (now (area .entry)) m) m k at (drop at (now (draws .entry)))) (at + seedingOf k) (now (labels .entry)) r (now (labels .exit)) ⌝ }
     ensures { λ _. ⌜ take (4 * (m * m)) (now (area .exit)) ≡ take (4 * (m * m)) (now (area .entry)) ⌝ }
 {

@@ -18,7 +18,7 @@ ghost use Rattle.columns.specs.Columns.{pointsAt};
 ghost use Rattle.pairs.specs.Pairs.{pairsArea};
 ghost use Rattle.draws.specs.Counts.{seedingOf};
 ghost use Rattle.seeding.specs.Seeding as seeds;
-ghost use Rattle.seeding.specs.Seeding.{seeding, Seedable};
+ghost use Rattle.seeding.specs.Seeding.{seeding, MaySeed};
 ghost use Rattle.lloyd.specs.Passes.{lloydLabels};
 ghost use Rattle.lloyd.specs.Area.{Held, Centres};
 ghost use Rattle.clustering.specs.Clustering.{kmeansOf};
@@ -150,7 +150,7 @@ pub extern "C" fn onc_labels_in(
     at: usize,
     labels: &mut [usize],
 ) -> usize
-    requires { ⌜ Held (now area) m × Seedable m k (now draws) at × (length (now labels) ≡ m) ⌝ }
+    requires { ⌜ Held (now area) m × MaySeed m k (now draws) at × (length (now labels) ≡ m) ⌝ }
     ensures { λ r. ⌜ (r ≡ nextAfter (at + seedingOf k) (kmeansOf (pointsAt (now (area .entry)) m) m k at (drop at (now (draws .entry)))))
         × (now (labels .exit) ≡ labelsAfter (kmeansOf (pointsAt (now (area .entry)) m) m k at (drop at (now (draws .entry)))) (now (labels .entry)))
         × (take (4 * (m * m)) (now (area .exit)) ≡ take (4 * (m * m)) (now (area .entry))) ⌝ }
@@ -180,7 +180,7 @@ pub extern "C" fn onc_seed_in(
     centres: &mut [usize],
     weights: &mut [f64],
 ) -> usize
-    requires { ⌜ Held (now area) m × Seedable m (length (now centres)) (now draws) at × (length (now weights) ≡ m) ⌝ }
+    requires { ⌜ Held (now area) m × MaySeed m (length (now centres)) (now draws) at × (length (now weights) ≡ m) ⌝ }
     ensures { λ r. ⌜ (r ≡ nextAfter (at + seedingOf (length (now (centres .entry)))) (seeding (squaredAt (pointsAt (now (area .entry)) m) m) m (length (now (centres .entry))) at (drop at (now (draws .entry)))))
         × seeds.CentresAfter (seeding (squaredAt (pointsAt (now (area .entry)) m) m) m (length (now (centres .entry))) at (drop at (now (draws .entry)))) (now (centres .exit)) ⌝ }
 {

@@ -8,7 +8,7 @@ ghost use Rattle.columns.specs.Pair.{squaredAt};
 ghost use Rattle.columns.specs.Columns.{pointsAt};
 ghost use Rattle.refusals.specs.Table.{workDoubles};
 ghost use Rattle.draws.specs.Counts.{seedingOf};
-ghost use Rattle.seeding.specs.Seeding.{seeding, Seedable};
+ghost use Rattle.seeding.specs.Seeding.{seeding, MaySeed};
 ghost use Rattle.lloyd.specs.Area.{Held, Centres};
 ghost use Rattle.lloyd.specs.Passes.{lloydLabels};
 ghost use Rattle.clustering.specs.Clustering.{kmeansOf};
@@ -29,7 +29,7 @@ fn centres_apart(
     found: &mut [usize],
     weights: &mut [f64],
 ) -> Kmeans
-    requires { ⌜ Held (now area) n × Seedable n (length (now centres)) (now draws) 0 × (length (now found) ≡ length (now centres)) × (length (now weights) ≡ n) ⌝ }
+    requires { ⌜ Held (now area) n × MaySeed n (length (now centres)) (now draws) 0 × (length (now found) ≡ length (now centres)) × (length (now weights) ≡ n) ⌝ }
     ensures { λ r. ⌜ record { answer = refusalOf r; read = readOf r; out = now (centres .exit) }
         ≡ tookOf (now (draws .entry)) (seeding (squaredAt (pointsAt (now (area .entry)) n) n) n (length (now (centres .entry))) 0 (now (draws .entry))) (now (centres .entry)) ⌝ }
 {
@@ -51,7 +51,7 @@ fn centres_alone(
     centres: &mut [usize],
     area: &mut [f64],
 ) -> Kmeans
-    requires { ⌜ Points (now points) n × Seedable n k (now draws) 0 × (length (now centres) ≡ k) × (length (now area) ≡ 5 * (n * n)) ⌝ }
+    requires { ⌜ Points (now points) n × MaySeed n k (now draws) 0 × (length (now centres) ≡ k) × (length (now area) ≡ 5 * (n * n)) ⌝ }
     ensures { λ r. ⌜ record { answer = refusalOf r; read = readOf r; out = now (centres .exit) }
         ≡ tookOf (now (draws .entry)) (seeding (squaredAt (cellAt (now (points .entry)) n) n) n k 0 (now (draws .entry))) (now (centres .entry)) ⌝ }
 {
@@ -147,7 +147,7 @@ fn labels_alone(
     labels: &mut [usize],
     area: &mut [f64],
 ) -> Kmeans
-    requires { ⌜ Points (now points) n × Seedable n k (now draws) 0 × (length (now labels) ≡ n) × (length (now area) ≡ 5 * (n * n)) ⌝ }
+    requires { ⌜ Points (now points) n × MaySeed n k (now draws) 0 × (length (now labels) ≡ n) × (length (now area) ≡ 5 * (n * n)) ⌝ }
     ensures { λ r. ⌜ record { answer = refusalOf r; read = readOf r; out = now (labels .exit) }
         ≡ tookOf (now (draws .entry)) (labelsOf (kmeansOf (cellAt (now (points .entry)) n) n k 0 (now (draws .entry)))) (now (labels .entry)) ⌝ }
 {

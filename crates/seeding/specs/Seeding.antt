@@ -47,7 +47,7 @@ abbrev pub Below : ℕ → List ℕ → Type 0
 Below m cs = (i : ℕ) → i < length cs → numbers cs i < m
 
 -- k centres among m items, and draws enough for them from `at` on
-pub record Seedable (m k : ℕ) (draws : List ℕ) (at : ℕ) : Type 0 where
+pub record MaySeed (m k : ℕ) (draws : List ℕ) (at : ℕ) : Type 0 where
   pub two : 2 ≤ k
   pub names : k ≤ m
   pub enough : at + seedingOf k ≤ length draws
@@ -56,7 +56,7 @@ pub record Seedable (m k : ℕ) (draws : List ℕ) (at : ℕ) : Type 0 where
 pub record Ready (squares : List Float) (m k : ℕ) (draws : List ℕ) (at : ℕ) : Type 0 where
   pub few : m ≤ 256
   pub square : length squares ≡ m * m
-  pub asked : Seedable m k draws at
+  pub asked : MaySeed m k draws at
 
 -- what a call answers, and what it leaves
 pub record SeededBy (r : Drawn (List ℕ)) (next : ℕ) (answer : Seeded) (centres′ : List ℕ) : Type 0 where
