@@ -108,7 +108,7 @@ pub fn first_from(limit: usize, xs: &[usize]) -> usize
     n
 }
 
-// x where it is below b.
+// x where it is below b, else b.
 pub fn lesser(x: f64, b: f64) -> f64
     ensures { λ r. ⌜ r ≡ sums.lesser x b ⌝ }
 {

@@ -16,7 +16,7 @@ slice-relend-prefix-fill-numbers : tie.Need-slice-relend-prefix-fill-numbers
 slice-relend-prefix-fill-numbers c = omega arith
 
 slice-aggregate-fill-numbers : tie.Need-slice-aggregate-fill-numbers
-slice-aggregate-fill-numbers c = sym (length-take-le _ _ (c .before .before .before .before .before .before .before .pre .2))
+slice-aggregate-fill-numbers c = sym (length-take-le _ _ (omega (arith, c .before .before .before .before .before .before .before .pre .2)))
 
 fill-numbers-requires : tie.Need-fill-numbers-requires
 fill-numbers-requires c κs = tt
