@@ -66,12 +66,3 @@ length-grouped g d labels scores few same =
 -- and that of a refusal
 pub refused-room : (k p : ℕ) {m : ℕ} → room ≤ m → length (refusedText k p) ≤ m
 refused-room k p l = omega (arith, length-refused k p)
-
--- no text is empty
-pub grouped-some : (g d : ℕ) (labels : List ℕ) (scores : List Float) → 0 < length (groupedText g d labels scores)
-unfolding groupedText sizesText
-grouped-some g d labels scores = omega arith
-
-pub refused-some : (k p : ℕ) → 0 < length (refusedText k p)
-unfolding refusedText
-refused-some k p = omega arith

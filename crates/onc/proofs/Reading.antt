@@ -1,5 +1,5 @@
 -- Demand 3: what a call reads of its draws.
-use Prim.Native.Nat.{ℕ, _+_, _*_, _<_, _≤_}
+use Prim.Native.Nat.{ℕ, _*_, _≤_}
 use mathlib.Core.Path.{_≡_, refl, sym, _∙_, ap, subst}
 use mathlib.Core.Bool.{true, false}
 use mathlib.Core.List.{List}
@@ -17,7 +17,7 @@ use Rattle.candidates.specs.Candidates.{found}
 use Rattle.rounds.specs.Round.{Run, done, ended, needOf, totalOf}
 use Rattle.rounds.proofs.Spends.{Spends}
 use Rattle.onc.specs.Onc.{Lists, Outcome, shape, runOf, finalOf, ran, groupOf}
-use Rattle.onc.specs.Demands.{Cause, no-repeat, not-square, few-rows, many-rows, many-repeats, cell-count, list-length, Within, Outputs, outputs, labelsIn, roundsOf, AsLong, Counted, EndsBy, DrawsRead, Demand3}
+use Rattle.onc.specs.Demands.{Cause, no-repeat, not-square, few-rows, many-rows, many-repeats, cell-count, list-length, outputs, labelsIn, roundsOf, AsLong, Counted, EndsBy, Demand3}
 use Rattle.onc.proofs.Shapes.{shape-cause, shape-within, shape-same}
 use Rattle.onc.proofs.Calls.{call-ran, by-call, within-ran}
 use Rattle.onc.proofs.Groupings.{all, all-length, run-spends, search-same, reached-same, meets-draw, meets-none}

@@ -12,7 +12,7 @@ use Rattle.lists.proofs.Sums.{fold-same}
 use Rattle.partition.specs.Partition.{joined, groupAt, times}
 use Rattle.partition.specs.Orders.{totalTo}
 use Rattle.partition.proofs.Collected.{collect, collect-length, collect-each}
-use Rattle.partition.proofs.Members.{count-joined, joined-one, joined-none, times-append, times-none, groups-fewer, Below, below-none, below-append, below-group}
+use Rattle.partition.proofs.Members.{count-joined, joined-one, joined-none, times-append, times-none, Below, below-none, below-append, below-group}
 use Rattle.quality.specs.Quality.{picked, onSide, weak, average, qualityOf, qualitiesOf}
 
 -- A count of items that adds up over lists one after the other.
@@ -82,10 +82,6 @@ picked-some p gs h = picked-each (λ xs. 0 < length xs) p gs h
 pub picked-count : (p : ℕ → Bool) (gs : List (List ℕ)) → length (picked p gs) ≡ countIf p (length gs)
 unfolding picked
 picked-count p gs = collect-length p (groupAt gs) (length gs)
-
--- as many items as picked groups, or more
-pub picked-items : (p : ℕ → Bool) (gs : List (List ℕ)) → ((g : ℕ) → g < length gs → 0 < length (groupAt gs g)) → length (picked p gs) ≤ length (joined (picked p gs))
-picked-items p gs h = groups-fewer (picked p gs) (picked-some p gs h)
 
 -- tests that agree on the groups
 pub picked-same : (p q : ℕ → Bool) (gs : List (List ℕ)) → ((g : ℕ) → g < length gs → p g ≡ q g) → picked p gs ≡ picked q gs

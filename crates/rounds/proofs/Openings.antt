@@ -102,9 +102,6 @@ module _ (book : List Float) (n m repeats : ℕ) (draws : List ℕ) (read left :
       let two : 2 ≤ length rows = omega (arith, rows-len, P .reads .two) in
       subst (λ (k : ℕ). OpeningTook (needOf repeats k) (drop read draws) k O) rows-len (opening-took book n repeats rows read (drop read draws) two)
 
-  told : read + repeats * countOf (length rows) ≡ read + needOf repeats m
-  told = ap (λ (k : ℕ). read + repeats * countOf k) rows-len
-
   pub open-part : (k : ℕ) → k ≡ 5 * (m * m) → length (part (left * n) k wf) ≡ k
   open-part k e = part-length (left * n) k wf (omega (arith, e, open-area))
 

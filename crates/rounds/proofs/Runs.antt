@@ -142,11 +142,6 @@ whole book n repeats (suc left) rows read ds some =
     after-whole book n repeats left rows (read + needOf repeats (length rows)) (whole book n repeats left) (needOf repeats (length rows)) ds (openingOf book n repeats rows read ds)
     (opening-took book n repeats rows read ds some)
 
--- where a round's result is known
-pub done-whole : (book : List Float) (n repeats left : ℕ) (rows : List ℕ) (read : ℕ) (ds : List ℕ) (s : State) (ms : List ℕ) (last : ℕ) (rest : List ℕ) → 2 ≤ length rows
-    → roundOf book n repeats left rows read ds ≡ done s ms last rest → Partition (length rows) (s .groups) × (length (s .scores) ≡ length rows)
-done-whole book n repeats left rows read ds s ms last rest some e = subst (Whole (length rows)) e (whole book n repeats left rows read ds some)
-
 -- a run that ends in groups has the silhouettes of the first round's items, under the labels of these groups, as scores
 abbrev pub ScoredRun : (ℕ → ℕ → Float) → ℕ → Run → Type 0
 ScoredRun x m (done s ms read rest) = Scored x m s
@@ -183,9 +178,3 @@ scored book n repeats zero rows read ds some = tt
 scored book n repeats (suc left) rows read ds some =
     after-scored (roundOf book n repeats left) book n rows (read + needOf repeats (length rows)) (needOf repeats (length rows)) ds (openingOf book n repeats rows read ds)
     (opening-has book n repeats rows read ds some (Scored (distAt book n rows) (length rows)) (base-scored (distAt book n rows) (length rows)))
-
--- where a round's result is known
-pub done-scored : (book : List Float) (n repeats left : ℕ) (rows : List ℕ) (read : ℕ) (ds : List ℕ) (s : State) (ms : List ℕ) (last : ℕ) (rest : List ℕ) → 2 ≤ length rows
-    → roundOf book n repeats left rows read ds ≡ done s ms last rest → Scored (distAt book n rows) (length rows) s
-done-scored book n repeats left rows read ds s ms last rest some e =
-    subst (ScoredRun (distAt book n rows) (length rows)) e (scored book n repeats left rows read ds some)
