@@ -14,8 +14,7 @@ use Rattle.rounds.specs.Round.{Run, done, ended}
 use Rattle.onc_answers.specs.declared.Onc.{Onc}
 use Rattle.onc_answers.specs.Answers.{Answer, numberOf, answerOf, listsFit, shapeOf, refusing}
 use Rattle.onc.specs.Onc.{Lists, Outcome, shape, runOf, ran, groupOf}
-use Rattle.onc.specs.Steps.{WithinLimits}
-use Rattle.onc.specs.Demands.{Demand1, grouping, not-started, not-ended, Within}
+use Rattle.onc.specs.Demands.{Limits, Within, Demand1, grouping, not-started, not-ended}
 use Rattle.onc.proofs.Shapes.{shape-cause, shape-place, shape-within, within-shape, shape-asked}
 
 module _ (book : List Float) (rows cols repeat : ℕ) (draws : List ℕ) (l : Lists) where
@@ -87,23 +86,8 @@ module _ (book : List Float) (rows cols repeat : ℕ) (draws : List ℕ) (l : Li
 
   -- and without one the run may start
   pub asked-fair : numberOf asked ≡ 0
-      → WithinLimits book rows repeat (length (l .order)) (length (l .sizes)) (length (l .scores)) (length (l .floats)) (length (l .numbers)) × (length (l .ordered) ≡ rows * rows)
-  asked-fair e =
-      let w = shape-within book rows cols repeat l (asked-none e) .1 in (
-        record {
-          two = w .two;
-          few = w .few;
-          some = w .some;
-          times = w .times;
-          square = w .square;
-          order-long = w .order-long;
-          sizes-long = w .sizes-long;
-          scores-long = w .scores-long;
-          floats-long = w .floats-long;
-          numbers-long = w .numbers-long;
-        },
-        w .ordered-long,
-      )
+      → Limits book rows repeat (length (l .order)) (length (l .sizes)) (length (l .scores)) (length (l .floats)) (length (l .numbers)) × (length (l .ordered) ≡ rows * rows)
+  asked-fair e = let w = shape-within book rows cols repeat l (asked-none e) .1 in (w .limits, w .ordered-long)
 
   pub asked-ran : numberOf asked ≡ 0 → {o : Outcome} → o ≡ ran book rows (runOf book rows repeat draws) l → o ≡ groupOf book rows cols repeat draws l
   asked-ran e h = h ∙ sym (call-ran book rows cols repeat draws l (asked-none e))

@@ -217,7 +217,7 @@ second book n repeat draws l w =
     r = runOf book n repeat draws
 
     took : Spends book n repeat 32 (all n) 0 draws r
-    took = run-spends book n repeat draws (w .two)
+    took = run-spends book n repeat draws (w .limits .two)
 
     exact : groupOf book n n repeat draws l ≡ ran book n r l
     exact = within-ran book n repeat draws l w
@@ -227,7 +227,7 @@ second book n repeat draws l w =
 
     grouping : (s : State) (ms : List ℕ) (read : ℕ) (rest : List ℕ) → r ≡ done s ms read rest → GroupingOf book n s (groupOf book n n repeat draws l)
     grouping s ms read rest e =
-        let h : Whole n (done s ms read rest) = subst (Whole n) e (run-whole book n repeat draws (w .two)) in
-        let k : ScoredRun (distAt book n (all n)) n (done s ms read rest) = subst (ScoredRun (distAt book n (all n)) n) e (run-scored book n repeat draws (w .two)) in
+        let h : Whole n (done s ms read rest) = subst (Whole n) e (run-whole book n repeat draws (w .limits .two)) in
+        let k : ScoredRun (distAt book n (all n)) n (done s ms read rest) = subst (ScoredRun (distAt book n (all n)) n) e (run-scored book n repeat draws (w .limits .two)) in
         let o : groupOf book n n repeat draws l ≡ ran book n (done s ms read rest) l = exact ∙ ap (λ (q : Run). ran book n q l) e in
         subst (GroupingOf book n s) (sym o) (ran-grouping book n s ms read rest l (h .0) k)

@@ -17,7 +17,7 @@ use Rattle.candidates.specs.Candidates.{found}
 use Rattle.rounds.specs.Round.{Run, done, ended, needOf, totalOf}
 use Rattle.rounds.proofs.Spends.{Spends}
 use Rattle.onc.specs.Onc.{Lists, Outcome, shape, runOf, finalOf, ran, groupOf}
-use Rattle.onc.specs.Demands.{Cause, no-repeat, not-square, few-rows, many-rows, many-repeats, cell-count, list-length, outputs, labelsIn, roundsOf, AsLong, Counted, EndsBy, Demand3}
+use Rattle.onc.specs.Demands.{Cause, no-repeat, not-square, few-rows, many-rows, many-repeats, cell-count, list-length, outputs, labelsIn, roundsOf, AsLong, Counted, EndsBy, Tells, Demand3}
 use Rattle.onc.proofs.Shapes.{shape-cause, shape-within, shape-same}
 use Rattle.onc.proofs.Calls.{call-ran, by-call, within-ran}
 use Rattle.onc.proofs.Groupings.{all, all-length, run-spends, search-same, reached-same, meets-draw, meets-none}
@@ -70,6 +70,14 @@ module _ (book : List Float) (rows repeat : ℕ) (draws : List ℕ) where
   draws-there (ended (DrawOutOfRange p) ms) k = k .enough
   draws-there (ended ClusteringFailed ms) k = k .enough
 
+  -- what the run's end is told as
+  run-tells : (l : Lists) (r : Run) → Tells r (ran book rows r l .answer)
+  run-tells l (done s ms read rest) = refl
+  run-tells l (ended Rounds ms) = refl
+  run-tells l (ended (Short k) ms) = refl
+  run-tells l (ended (DrawOutOfRange p) ms) = refl
+  run-tells l (ended ClusteringFailed ms) = refl
+
   -- the place of 7
   of-short : (r : Run) → Spends book rows repeat 32 (all rows) 0 draws r → finalOf r .refused .number ≡ 7 → finalOf r .refused .place ≡ totalOf repeat (roundsOf r)
   of-short (done s ms read rest) k h = let y : ⊥ = omega arith in absurd y
@@ -117,12 +125,13 @@ pub third : (book : List Float) (rows cols repeat : ℕ) (draws : List ℕ) (l :
 third book rows cols repeat draws l =
     record {
       grouped = by-call book rows cols repeat draws l (λ (o : Outcome). o .answer .refused .number ≡ 0 → Counted book rows cols repeat draws l (o .answer .read))
-          (λ e. let w = shape-within book rows cols repeat l e .1 in of-grouped book rows repeat draws cols l e r refl (took (w .two)))
+          (λ e. let w = shape-within book rows cols repeat l e .1 in of-grouped book rows repeat draws cols l e r refl (took (w .limits .two)))
           (λ e h. absurd (not-zero (shape book rows cols repeat l .number) e h));
       short = by-call book rows cols repeat draws l (λ (o : Outcome). o .answer .refused .number ≡ 7 → o .answer .refused .place ≡ totalOf repeat (roundsOf r))
-          (λ e. let w = shape-within book rows cols repeat l e .1 in of-short book rows repeat draws r (took (w .two)))
+          (λ e. let w = shape-within book rows cols repeat l e .1 in of-short book rows repeat draws r (took (w .limits .two)))
           (λ e h. absurd (not-seven (shape-cause book rows cols repeat l e) h));
-      started = λ square w. ap (λ (o : Outcome). o .answer) (subst (λ (c : ℕ). groupOf book rows c repeat draws l ≡ ran book rows r l) square (within-ran book rows repeat draws l w));
+      tells = λ square w. subst (λ (c : ℕ). Tells r (groupOf book rows c repeat draws l .answer)) square
+          (subst (λ (o : Outcome). Tells r (o .answer)) (sym (within-ran book rows repeat draws l w)) (run-tells book rows repeat draws l r));
       reads = λ two. record { rounds = few-rounds book rows repeat draws r (took two); there = draws-there book rows repeat draws r (took two); ends = ends-by book rows repeat draws r (took two) };
     }
   where

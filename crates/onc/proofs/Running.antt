@@ -21,12 +21,13 @@ use Rattle.rounds.proofs.Runs.{Whole}
 use Rattle.onc_answers.specs.declared.Onc.the-variants.{Grouped, Stopped}
 use Rattle.onc_answers.specs.Answers.{answerOf}
 use Rattle.onc.specs.Onc.{Lists, Outcome, runOf, ran}
-use Rattle.onc.specs.Steps.{WithinLimits, Ran}
+use Rattle.onc.specs.Demands.{Limits}
+use Rattle.onc.specs.Steps.{Ran}
 use Rattle.onc.proofs.Groupings.{all, all-length}
 
 -- the numbers with the rows of the first round in front
 module _ (book : List Float) (n repeat : ℕ) (draws order sizes : List ℕ) (scores floats : List Float) (wi front : List ℕ)
-    (fair : WithinLimits book n repeat (length order) (length sizes) (length scores) (length floats) (length wi))
+    (fair : Limits book n repeat (length order) (length sizes) (length scores) (length floats) (length wi))
     (counted : front ≡ listed (λ i. i) (length (take n wi))) where
   inside : n ≤ length wi
   inside = omega (arith, fair .numbers-long)

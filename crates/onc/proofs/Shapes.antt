@@ -111,17 +111,19 @@ module _ (book : List Float) (rows cols repeat : ℕ) (l : Lists) where
       let some : repeat ≡ 0 → ⊥ = eqb-false repeat 0 (a .0) in (
         eqb-true rows cols (b .0),
         record {
-          two = k .two;
-          few = k .few;
-          some = omega (arith, some);
-          times = ltb-false 64 repeat (d .0);
-          square = k .square;
-          order-long = eqb-true (length (l .order)) rows (f₁ .0);
-          sizes-long = eqb-true (length (l .sizes)) rows (f₂ .0);
-          scores-long = eqb-true (length (l .scores)) rows (f₃ .0);
+          limits = record {
+            two = k .two;
+            few = k .few;
+            some = omega (arith, some);
+            times = ltb-false 64 repeat (d .0);
+            square = k .square;
+            order-long = eqb-true (length (l .order)) rows (f₁ .0);
+            sizes-long = eqb-true (length (l .sizes)) rows (f₂ .0);
+            scores-long = eqb-true (length (l .scores)) rows (f₃ .0);
+            floats-long = leb-true (workDoubles rows) (length (l .floats)) (f₅ .0);
+            numbers-long = leb-true (workNumbers rows) (length (l .numbers)) (f₅ .1);
+          };
           ordered-long = eqb-true (length (l .ordered)) (rows * rows) (f₄ .0);
-          floats-long = leb-true (workDoubles rows) (length (l .floats)) (f₅ .0);
-          numbers-long = leb-true (workNumbers rows) (length (l .numbers)) (f₅ .1);
         },
       )
 
@@ -129,20 +131,20 @@ module _ (book : List Float) (rows cols repeat : ℕ) (l : Lists) where
 pub within-shape : (book : List Float) (n repeat : ℕ) (l : Lists) → Within book n repeat l → shape book n n repeat l ≡ none
 unfolding shapeOf refusal when unless
 within-shape book n repeat l w =
-    let some : repeat ≡ 0 → ⊥ = λ e. let y : ⊥ = omega (arith, w .some) in y in
+    let some : repeat ≡ 0 → ⊥ = λ e. let y : ⊥ = omega (arith, w .limits .some) in y in
     rw (
       ne-eqb repeat 0 some,
       eq-eqb n n refl,
-      le-ltb n 2 (w .two),
-      le-ltb 64 repeat (w .times),
-      le-ltb 256 n (w .few),
-      eq-eqb (length book) (n * n) (w .square),
-      eq-eqb (length (l .order)) n (w .order-long),
-      eq-eqb (length (l .sizes)) n (w .sizes-long),
-      eq-eqb (length (l .scores)) n (w .scores-long),
+      le-ltb n 2 (w .limits .two),
+      le-ltb 64 repeat (w .limits .times),
+      le-ltb 256 n (w .limits .few),
+      eq-eqb (length book) (n * n) (w .limits .square),
+      eq-eqb (length (l .order)) n (w .limits .order-long),
+      eq-eqb (length (l .sizes)) n (w .limits .sizes-long),
+      eq-eqb (length (l .scores)) n (w .limits .scores-long),
       eq-eqb (length (l .ordered)) (n * n) (w .ordered-long),
-      le-leb (workDoubles n) (length (l .floats)) (w .floats-long),
-      le-leb (workNumbers n) (length (l .numbers)) (w .numbers-long),
+      le-leb (workDoubles n) (length (l .floats)) (w .limits .floats-long),
+      le-leb (workNumbers n) (length (l .numbers)) (w .limits .numbers-long),
     )
 
 -- lists of other contents are refused alike

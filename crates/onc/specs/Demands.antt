@@ -7,7 +7,7 @@ use mathlib.Core.List.{List, [], _∷_, _++_}
 use lib.ListN.{length, take, drop}
 use lib.Ieee.{Float}
 use Rattle.lists.specs.Lists.{listed, numbers, cellAt}
-use Rattle.refusals.specs.Table.{workDoubles, workNumbers, wiped, wipedNumbers}
+use Rattle.refusals.specs.Table.{none, workDoubles, workNumbers, wiped, wipedNumbers}
 use Rattle.distance.specs.Distance.{distAt}
 use Rattle.scoring.specs.Scoring.{scoresOf}
 use Rattle.draws.specs.Draws.{Drawn, drawn, refused}
@@ -22,7 +22,7 @@ use Rattle.base.specs.Base.{baseOf}
 use Rattle.improve.specs.Improve.{weakItems}
 use Rattle.rounds.specs.Round.{Run, done, ended, needOf, rowsOf, totalOf}
 use Rattle.onc_answers.specs.Answers.{Answer, listsFit, refusing}
-use Rattle.onc.specs.Onc.{Lists, Outcome, runOf, finalOf, ran, groupOf}
+use Rattle.onc.specs.Onc.{Lists, Outcome, runOf, ran, groupOf}
 
 -- what a call returns and leaves in its outputs
 pub record Outputs : Type 0 where
@@ -52,19 +52,22 @@ pub record Wiped (n : ℕ) (o : Outcome) (l : Lists) : Type 0 where
   pub floats : o .lists .floats ≡ wiped n (l .floats)
   pub numbers : o .lists .numbers ≡ wipedNumbers n (l .numbers)
 
--- a book within the limits, and lists of the lengths that the call asks for
-pub record Within (book : List Float) (n repeat : ℕ) (l : Lists) : Type 0 where
+-- a book and repeats within the limits, and lists of the lengths that the call asks for: `order`, `sizes` and the other names are lengths
+pub record Limits (book : List Float) (n repeat order sizes scores floats numbers : ℕ) : Type 0 where
   pub two : 2 ≤ n
   pub few : n ≤ 256
   pub some : 1 ≤ repeat
   pub times : repeat ≤ 64
   pub square : length book ≡ n * n
-  pub order-long : length (l .order) ≡ n
-  pub sizes-long : length (l .sizes) ≡ n
-  pub scores-long : length (l .scores) ≡ n
+  pub order-long : order ≡ n
+  pub sizes-long : sizes ≡ n
+  pub scores-long : scores ≡ n
+  pub floats-long : workDoubles n ≤ floats
+  pub numbers-long : workNumbers n ≤ numbers
+
+pub record Within (book : List Float) (n repeat : ℕ) (l : Lists) : Type 0 where
+  pub limits : Limits book n repeat (length (l .order)) (length (l .sizes)) (length (l .scores)) (length (l .floats)) (length (l .numbers))
   pub ordered-long : length (l .ordered) ≡ n * n
-  pub floats-long : workDoubles n ≤ length (l .floats)
-  pub numbers-long : workNumbers n ≤ length (l .numbers)
 
 -- rows 1 and 2 of the table do not apply
 pub record Shaped (rows cols repeat : ℕ) : Type 0 where
@@ -94,7 +97,7 @@ pub data Cause (book : List Float) (rows cols repeat : ℕ) (l : Lists) : ℕ �
 -- meets, which keeps the outputs. A refusal tells no groups and no draws read, and before the run the place 0. A run starts within the limits alone, and
 -- once it has started the working lists are wiped, however it ends. (That the code of a call returns is proved with its contract, as of every function.)
 pub data Demand1 (book : List Float) (rows cols repeat : ℕ) (o : Outcome) (l : Lists) : Type 0 where
-  grouping : rows ≡ cols → Within book rows repeat l → o .answer .refused .number ≡ 0 → Wiped rows o l → Demand1 book rows cols repeat o l
+  grouping : rows ≡ cols → Within book rows repeat l → o .answer .refused ≡ none → Wiped rows o l → Demand1 book rows cols repeat o l
   not-started : Cause book rows cols repeat l (o .answer .refused .number) → o .answer ≡ refusing (record { number = o .answer .refused .number; place = 0 }) → o .lists ≡ l
       → Demand1 book rows cols repeat o l
   not-ended : rows ≡ cols → Within book rows repeat l → has (9 ∷ 7 ∷ 8 ∷ 3 ∷ []) (o .answer .refused .number) ≡ true → o .answer ≡ refusing (o .answer .refused)
@@ -104,7 +107,7 @@ pub data Demand1 (book : List Float) (rows cols repeat : ℕ) (o : Outcome) (l :
 -- that of a group with a member, the scores are the silhouettes of the names under their labels, and the ordered matrix has the book's rows and columns
 -- group by group
 pub record GroupingOf (book : List Float) (n : ℕ) (s : State) (o : Outcome) : Type 0 where
-  pub not-refused : o .answer .refused .number ≡ 0
+  pub not-refused : o .answer .refused ≡ none
   pub partition : Partition n (s .groups)
   pub groups : groupsIn (outputs o) ≡ s .groups
   pub labels : (g i : ℕ) → has (groupAt (s .groups) g) i ≡ true → numbers (labelsIn n (outputs o)) i ≡ g
@@ -214,13 +217,21 @@ pub record DrawsRead (book : List Float) (n repeat : ℕ) (draws : List ℕ) (r 
   pub there : totalOf repeat (roundsOf r) ≤ length draws
   pub ends : EndsBy book n repeat draws r
 
+-- what a call answers by how its run ends: the number and place of each refusal, and of a grouping its groups and the draws read
+abbrev pub Tells : Run → Answer → Type 0
+Tells (done s ms read rest) a = a ≡ record { refused = none; groups = length (s .groups); read = read }
+Tells (ended Rounds ms) a = a ≡ refusing (record { number = 9; place = 0 })
+Tells (ended (Short k) ms) a = a ≡ refusing (record { number = 7; place = k })
+Tells (ended (DrawOutOfRange p) ms) a = a ≡ refusing (record { number = 8; place = p })
+Tells (ended ClusteringFailed ms) a = a ≡ refusing (record { number = 3; place = 0 })
+
 -- Demand 3: how many draws a call reads, and that no others matter.
 pub record Demand3 (book : List Float) (rows cols repeat : ℕ) (draws : List ℕ) (l : Lists) : Type 0 where
   pub grouped : groupOf book rows cols repeat draws l .answer .refused .number ≡ 0
       → Counted book rows cols repeat draws l (groupOf book rows cols repeat draws l .answer .read)
   pub short : groupOf book rows cols repeat draws l .answer .refused .number ≡ 7
       → groupOf book rows cols repeat draws l .answer .refused .place ≡ totalOf repeat (roundsOf (runOf book rows repeat draws))
-  pub started : rows ≡ cols → Within book rows repeat l → groupOf book rows cols repeat draws l .answer ≡ finalOf (runOf book rows repeat draws)
+  pub tells : rows ≡ cols → Within book rows repeat l → Tells (runOf book rows repeat draws) (groupOf book rows cols repeat draws l .answer)
   pub reads : 2 ≤ rows → DrawsRead book rows repeat draws (runOf book rows repeat draws)
 
 -- the three demands, of every call

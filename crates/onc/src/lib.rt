@@ -5,7 +5,8 @@ ghost use lib.ListN.{length};
 ghost use Rattle.lists.specs.Lists.{listed};
 ghost use Rattle.onc_answers.specs.Answers.{answerOf};
 ghost use Rattle.onc.specs.Onc.{runOf, ran, groupOf};
-ghost use Rattle.onc.specs.Steps.{WithinLimits, Ran};
+ghost use Rattle.onc.specs.Demands.{Limits};
+ghost use Rattle.onc.specs.Steps.{Ran};
 use onc_answers::Onc;
 use top::Top;
 
@@ -31,7 +32,7 @@ fn run(
     floats: &mut [f64],
     numbers: &mut [usize],
 ) -> Top
-    requires { ⌜ WithinLimits (now book) n repeat (length (now order)) (length (now sizes)) (length (now scores)) (length (now floats)) (length (now numbers)) ⌝ }
+    requires { ⌜ Limits (now book) n repeat (length (now order)) (length (now sizes)) (length (now scores)) (length (now floats)) (length (now numbers)) ⌝ }
     ensures { λ r. ⌜ Ran (runOf (now (book .entry)) n repeat (now (draws .entry))) n r (now (order .entry)) (now (order .exit)) (now (sizes .entry)) (now (sizes .exit))
         (now (scores .entry)) (now (scores .exit)) (now (floats .entry)) (now (floats .exit)) (now (numbers .entry)) (now (numbers .exit)) ⌝ }
 {
@@ -64,7 +65,7 @@ fn finish(
     floats: &mut [f64],
     numbers: &mut [usize],
 ) -> Onc
-    requires { ⌜ WithinLimits (now book) n repeat (length (now order)) (length (now sizes)) (length (now scores)) (length (now floats)) (length (now numbers)) × (length (now ordered) ≡ n * n) ⌝ }
+    requires { ⌜ Limits (now book) n repeat (length (now order)) (length (now sizes)) (length (now scores)) (length (now floats)) (length (now numbers)) × (length (now ordered) ≡ n * n) ⌝ }
     ensures { λ r. ⌜ record {
       answer = answerOf r;
       lists = record {
