@@ -1,6 +1,6 @@
 -- What a reader may believe of `doubleOf` and `bitsOf` without reading the format. The fields of a pattern are those of IEEE 754: its sign at
 -- 2 ^ 63, then the exponent's field, then the fraction, below 2 ^ 52. Each pattern below 2 ^ 64 that is no NaN's comes back, every NaN's pattern gives
--- the one of 7ff8000000000000, and each double comes back. `bits-claim` (proofs/Claim.antt) proves it.
+-- the one NaN, whose pattern is 7ff8000000000000, and each double comes back. `bits-claim` (proofs/Claim.antt) proves it.
 use Prim.Native.Nat.{ℕ, suc, _+_, _*_, _/_, _%_, _^_, _<_, _≤_}
 use mathlib.Core.Path.{_≡_}
 use mathlib.Core.Bool.{Bool, true, false}

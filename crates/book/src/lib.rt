@@ -1,6 +1,6 @@
 // A book that is read through a list of row numbers, as a struct of the cells, their width and the row numbers. No cell is
 // copied. A function over it takes it apart and calls the covered form in `distance`; the last two make the struct from
-// plain lists, for callers that do not hold one. Each says `return`: without it a call that gives nothing back is lowered in
+// plain lists, for callers that do not hold one. All but `book_of` say `return`: without it a call that gives nothing back is lowered in
 // another way than one that gives an answer, and would need a proof of its own (proofs/Walks.antt).
 ghost use mathlib.Core.Path.{_≡_};
 ghost use Prim.Native.Nat.{_<_, _*_};

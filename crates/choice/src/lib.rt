@@ -22,10 +22,10 @@ pub fn check_improve_clusters<'a>(
     }
 }
 
-// A row number in the book that a list of rows makes, as a re-clustered one is: the Rust's `local_idx`.
+// A row number in an inner book, which is a list of rows of the book above: the Rust's `local_idx`.
 pub struct LocalRow(pub usize);
 
-// The row number of the same name in the book that those rows are of.
+// The row number of the same name in the book above.
 pub struct BookRow(pub usize);
 
 // The one translation: the row that stands at the local number in the list of rows. Inner form.

@@ -10,8 +10,8 @@ fn main() {
 
 // Reads a text into `room` and prints the answer to it. A text of more than 22,990 bytes is not in the layout, and `room` takes
 // more than that, so what it does not take changes nothing.
-// If a read fails the text ends there: it is answered as far as it was read, which is refused by 11 unless it is whole. If a
-// write fails the rest is not printed, and the program ends.
+// If a read fails, the text read so far is answered: by 11 unless it is whole. If a write fails, the rest is not printed, and
+// the program ends.
 fn answer_input(room: &mut [u8])
     requires { ⌜ 22990 < length (now room) ⌝ }
 {

@@ -87,7 +87,7 @@ fn same_answer(text: &[u8], expected: usize, a: Intake) -> bool
     words::same_numbers(text, expected, &answer)
 }
 
-// Whether a case is right, as handed in. If it is not, prints these two, as expected and as found.
+// Gives `right` back. If it is false, prints these two, as expected and as found.
 fn shown_answer(right: bool, text: &[u8], expected: usize, a: Intake) -> bool
     ensures { λ r. ⌜ r ≡ right ⌝ }
 {

@@ -71,7 +71,7 @@ pub fn read_of(a: Kmeans) -> usize
     }
 }
 
-// The answer of the common checks, as a leaf's.
+// The answer of the common checks, as the case of `Kmeans` with the same number and place.
 fn answered(a: Answer) -> Kmeans
     ensures { λ r. ⌜ (refusalOf r ≡ table.refusalOf a) × (readOf r ≡ 0) ⌝ }
 {

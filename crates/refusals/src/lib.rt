@@ -75,7 +75,7 @@ pub fn has_numbers(length: usize, m: usize) -> bool
     320 * m <= length
 }
 
-// The front part of a working list of doubles for m names, zero. Inner form.
+// Sets the front part of a working list of doubles for m names to zero. Inner form.
 pub fn wipe_doubles(m: usize, floats: &mut [f64])
     requires { ⌜ (m ≤ 256) × (workDoubles m ≤ length (now floats)) ⌝ }
     ensures { λ _. ⌜ now (floats .exit) ≡ wiped m (now (floats .entry)) ⌝ }

@@ -157,7 +157,7 @@ fn same_answer(text: &[u8], expected: usize, a: Kmeans) -> bool
     words::same_numbers(text, expected, &answer)
 }
 
-// Whether a case is right, as handed in. If it is not, prints these three, as expected and as found.
+// Gives `right` back. If it is false, prints these three, as expected and as found.
 fn shown_answer(right: bool, text: &[u8], expected: usize, a: Kmeans) -> bool
     ensures { λ r. ⌜ r ≡ right ⌝ }
 {

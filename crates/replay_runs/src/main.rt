@@ -159,7 +159,7 @@ fn same_answer(text: &[u8], expected: usize, a: Onc) -> bool
     words::same_numbers(text, expected, &answer)
 }
 
-// Whether a case is right, as handed in. If it is not, prints these four, as expected and as found.
+// Gives `right` back. If it is false, prints these four, as expected and as found.
 fn shown_answer(right: bool, text: &[u8], expected: usize, a: Onc) -> bool
     ensures { λ r. ⌜ r ≡ right ⌝ }
 {

@@ -39,8 +39,8 @@ fn keep(
 }
 
 // A round with `left` rounds left, on the rows at the front of `wi`. Its answer goes to `order`, `sizes` and `scores`, which have a place for each of
-// its items; a run that is refused leaves them as they were. The working lists, `wi` of numbers and `wf` of doubles, hold anything afterwards at their
-// fronts, and what they held behind.
+// its items; a run that is refused leaves them as they were. The fronts of the working lists, `wi` of numbers and `wf` of doubles, hold anything
+// afterwards; what lies behind is kept.
 pub fn cluster_kmeans_top(
     book: &[f64],
     n: usize,

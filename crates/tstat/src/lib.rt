@@ -19,7 +19,7 @@ fn ratio(m: f64, s: f64) -> f64
     m / s
 }
 
-// The t-statistic of any number of values: none is refused. The mean is worked out once.
+// The t-statistic of any number of values: no count is refused. The mean is worked out once.
 pub fn tstat_value(values: &[f64]) -> f64
     ensures { λ r. ⌜ r ≡ spec.tstatOf (cells (now (values .entry))) (length (now (values .entry))) ⌝ }
 {
@@ -41,7 +41,7 @@ pub fn tstat(values: &[f64]) -> Average
     Average::Value(tstat_value(values))
 }
 
-// The sum over the count of any number of values: none is refused.
+// The sum over the count of any number of values: no count is refused.
 pub fn mean_of_value(values: &[f64]) -> f64
     ensures { λ r. ⌜ r ≡ spec.plainMean (cells (now (values .entry))) (length (now (values .entry))) ⌝ }
 {

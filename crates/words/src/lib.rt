@@ -247,7 +247,7 @@ fn report(case: u64, kind: u64, at: usize, next: usize, n: usize) {
     print_number(n as u64, b"\n");
 }
 
-// Whether a case is right, as handed in. If it is not, prints its expected answer, which stands at `at`, and what was found.
+// Gives `right` back. If it is false, prints the expected answer, whose words stand at `at`, and the one found.
 pub fn shown(right: bool, text: &[u8], at: usize, found: &[usize]) -> bool
     ensures { λ r. ⌜ r ≡ right ⌝ }
 {
@@ -258,6 +258,7 @@ pub fn shown(right: bool, text: &[u8], at: usize, found: &[usize]) -> bool
     print_words(text, at, found.len());
     print(b"found ");
     print_numbers(found);
+    print(b"\n");
     false
 }
 

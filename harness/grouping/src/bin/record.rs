@@ -48,12 +48,15 @@ impl Recorder {
         let mut traits = vec![format!("refused by {}", want.told[0])];
         if want.outputs.is_some() {
             let rounds = by_rust(cells, n, call.repeat, Source::List(call.draws.clone()), 0).1.rounds.len();
-            traits = vec![format!("groupings of {rounds} rounds")];
+            traits = vec![format!("groupings of {rounds} round{}", if rounds == 1 { "" } else { "s" })];
+            let above: Vec<u64> = (0..n * n).filter(|c| c / n < c % n).map(|c| bits(cells[c])).collect();
+            let tied = (1..above.len()).any(|c| above[..c].contains(&above[c]));
             let asymmetric = (0..n * n).any(|c| bits(cells[c]) != bits(cells[c % n * n + c / n]));
             for (name, has) in [
                 ("groupings with NaN cells", cells.iter().any(|x| x.is_nan())),
                 ("groupings with infinite cells", cells.iter().any(|x| x.is_infinite())),
                 ("groupings of books that are not symmetric", asymmetric),
+                ("groupings of books with ties: equal cells above the diagonal", tied),
                 ("groupings with repeats above 1", call.repeat > 1),
             ] {
                 if has {
