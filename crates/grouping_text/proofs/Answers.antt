@@ -122,7 +122,7 @@ module _ (n repeats : ℕ) (book : List Float) (draws : List ℕ) (l : Lists) (f
   groups : Groups (groupOf book n n repeats draws l)
   groups =
       by-call book n n repeats draws l Groups
-      (λ e. let w = shape-within book n n repeats l e .1 in done-told (w .few) (runOf book n repeats draws) (run-whole book n repeats draws (w .two)) (run-text e))
+      (λ e. let w = shape-within book n n repeats l e .1 in done-told (w .limits .few) (runOf book n repeats draws) (run-whole book n repeats draws (w .limits .two)) (run-text e))
       (λ e h. absurd (subst T (sym (eq-eqb _ 0 h) ∙ e) tt))
 
   -- what is printed of a book is the text of the call
