@@ -145,7 +145,7 @@ class Recorded(Case):
         while at < len(words):
             rows, cols, repeat, cells, draws = words[at : at + 5]
             outputs = words[at + 5 : at + 9]
-            at += 11
+            at += 12
             lists = []
             for length in [cells, draws, 4] + outputs:
                 lists.append(words[at : at + length])

@@ -33,7 +33,7 @@ fn recorded_runs() {
     let mut grouper = Grouper::new();
     let (mut groupings, mut refusals, mut lengths) = (0, 0, 0);
     while !words.0.as_slice().is_empty() {
-        let head = sizes(&words.list(11));
+        let head = sizes(&words.list(12));
         let [rows, cols, repeat, cells, draws] = head[..5] else { unreachable!() };
         let book: Vec<f64> = words.list(cells).into_iter().map(f64::from_bits).collect();
         let draws = words.list(draws);
