@@ -16,7 +16,7 @@ use Rattle.partition.specs.Partition.{groupsOf, joined}
 use Rattle.partition.specs.Orders.{sizesOf}
 use Rattle.candidates.specs.Candidates.{Best, found, bestOf}
 use Rattle.candidates.specs.Steps.{SearchedBy}
-use Rattle.candidates.specs.declared.Kept.the-variants.{Nothing, Candidate}
+use Rattle.choice.specs.declared.Kept.the-variants.{Nothing, Candidate}
 use Rattle.candidates.specs.declared.Searched as searched
 use Rattle.base.specs.Base.{BasedBy}
 use Rattle.base.specs.declared.Based.the-variants.{Done, Stopped}

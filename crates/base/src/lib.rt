@@ -7,8 +7,8 @@ ghost use Rattle.distance.specs.Distance.{Readable, distAt};
 ghost use Rattle.candidates.specs.Candidates.{bestOf};
 ghost use Rattle.candidates.specs.Steps.{Enough, SearchedBy};
 ghost use Rattle.base.specs.Base.{BasedBy};
-use candidates::Kept;
 use candidates::Searched;
+use choice::Kept;
 use draws::Stop;
 
 // How many groups, and the place of the next draw; or what ends the run.

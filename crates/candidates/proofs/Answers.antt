@@ -7,8 +7,8 @@ use lib.Ieee.{Float}
 use Rattle.draws.specs.Draws.{Drawn, drawn, refused}
 use Rattle.draws.specs.declared.Stop.{Stop}
 use Rattle.draws.specs.declared.Stop.the-variants.{DrawOutOfRange}
-use Rattle.candidates.specs.declared.Kept.{Kept}
-use Rattle.candidates.specs.declared.Kept.the-variants.{Nothing, Candidate}
+use Rattle.choice.specs.declared.Kept.{Kept}
+use Rattle.choice.specs.declared.Kept.the-variants.{Nothing, Candidate}
 use Rattle.candidates.specs.declared.Searched.the-variants.{Done, Stopped}
 use Rattle.candidates.specs.declared.Tried.the-variants.{Made, Refused}
 use Rattle.candidates.specs.Candidates.{Best, nothing, found}

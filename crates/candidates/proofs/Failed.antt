@@ -8,12 +8,13 @@ use native.Mathlib.Omega.{arith}
 use lib.ListN.{drop}
 use lib.Seq.{drop-drop}
 use lib.Ieee.{Float, inf, lt}
-use Rattle.draws.specs.Counts.{seedingOf, seedingsOf, countOf}
+use Rattle.draws.specs.Counts.{seedingOf, seedingsOf, countOf, tries}
 use Rattle.draws.specs.Draws.{Drawn, drawn, refused, andThen}
 use Rattle.draws.proofs.Taken.{Ends, Among}
 use Rattle.clustering.specs.Clustering.{Grouped, kmeansOf}
 use Rattle.clustering.proofs.Laws.{Took, kmeans-took}
-use Rattle.candidates.specs.Candidates.{Candidate, candidateOf, candidateFrom, Best, nothing, found, replaces, keep, triesFrom, tries, repeatsFrom, bestOf}
+use Rattle.choice.specs.Replaces.{replaces}
+use Rattle.candidates.specs.Candidates.{Candidate, candidateOf, candidateFrom, Best, nothing, found, keep, triesFrom, repeatsFrom, bestOf}
 use Rattle.candidates.specs.Failed.{NoStat, NoStats}
 use Rattle.candidates.proofs.Laws.{Passed, count-is, repeat-took}
 

@@ -10,13 +10,14 @@ use lib.ListN.{length, drop, length-drop}
 use lib.Seq.{drop-drop}
 use lib.Ieee.{Float, inf, lt}
 use Rattle.lists.specs.Lists.{numbers}
-use Rattle.draws.specs.Counts.{seedingOf, seedingsOf, countOf}
+use Rattle.draws.specs.Counts.{seedingOf, seedingsOf, countOf, tries}
 use Rattle.draws.specs.Draws.{Drawn, drawn, refused, andThen}
 use Rattle.draws.proofs.Taken.{Ends, Among, behind, then-ends, then-behind, then-same, ends-map}
 use Rattle.clustering.specs.Clustering.{Grouped, kmeansOf}
 use Rattle.clustering.proofs.Laws.{Took, kmeans-took, kmeans-behind, kmeans-same}
 use Rattle.scoring.proofs.Laws.{scores-same}
-use Rattle.candidates.specs.Candidates.{Candidate, candidate, candidateOf, candidateFrom, Best, nothing, found, replaces, keep, triesFrom, tries, repeatsFrom, bestOf}
+use Rattle.choice.specs.Replaces.{replaces}
+use Rattle.candidates.specs.Candidates.{Candidate, candidate, candidateOf, candidateFrom, Best, nothing, found, keep, triesFrom, repeatsFrom, bestOf}
 
 -- what is made of the candidate, as it is kept or not
 module _ (x : ℕ → ℕ → Float) (m k : ℕ) (b : Best) (at : ℕ) where

@@ -11,7 +11,7 @@ use lib.Seq.{drop-drop}
 use lib.Ieee.{Float}
 use Rattle.lists.specs.Lists.{numbers, cells}
 use Rattle.tstat.specs.Tstat.{tstatOf, plainMean}
-use Rattle.draws.specs.Counts.{seedingOf, seedingsOf, countOf}
+use Rattle.draws.specs.Counts.{seedingOf, seedingsOf, countOf, tries}
 use Rattle.draws.specs.Draws.{Drawn, drawn, refused, andThen}
 use Rattle.draws.specs.declared.Stop.{Stop}
 use Rattle.draws.specs.declared.Stop.the-variants.{DrawOutOfRange}
@@ -22,13 +22,14 @@ use Rattle.clustering.specs.Steps.{ClusteredBy}
 use Rattle.clustering.specs.declared.Clustered.the-variants as clustered
 use Rattle.clustering.proofs.Laws.{kmeans-done, kmeans-stopped}
 use Rattle.scoring.specs.Scoring.{scoresOf}
-use Rattle.candidates.specs.declared.Kept.{Kept}
-use Rattle.candidates.specs.declared.Kept.the-variants.{Nothing, Candidate}
+use Rattle.choice.specs.declared.Kept.{Kept}
+use Rattle.choice.specs.declared.Kept.the-variants.{Nothing, Candidate}
+use Rattle.choice.specs.Replaces.{replacesKept}
 use Rattle.candidates.specs.declared.Searched.the-variants.{Done, Stopped}
 use Rattle.candidates.specs.declared.Tried.the-variants.{Made, Refused}
-use Rattle.candidates.specs.Candidates.{candidateOf, candidateFrom, Best, keep, triesFrom, tries, repeatsFrom}
+use Rattle.candidates.specs.Candidates.{candidateOf, candidateFrom, Best, keep, triesFrom, repeatsFrom}
 use Rattle.candidates.specs.Candidates as candidates
-use Rattle.candidates.specs.Steps.{bestFrom, replacesKept, SearchedBy, TriedBy, Lists}
+use Rattle.candidates.specs.Steps.{bestFrom, SearchedBy, TriedBy, Lists}
 use Rattle.candidates.proofs.Answers.{searched-done, searched-stopped, done-by, stopped-by, tried-made, tried-refused, refused-by}
 use Rattle.candidates.proofs.Laws.{Passed, tries-one, tries-more, tries-took, repeat-took}
 

@@ -1,13 +1,14 @@
 -- The candidates of a round of m items, and the best of them; x i c is item i's column c, its distance to item c. Definitions only.
-use Prim.Native.Nat.{ℕ, zero, suc, _+_, _-_, max}
-use mathlib.Core.Bool.{Bool, true, cond, _&&_, _||_}
+use Prim.Native.Nat.{ℕ, zero, suc, _+_}
+use mathlib.Core.Bool.{true, cond}
 use mathlib.Core.List.{List}
 use lib.ListN.{length}
-use lib.Ieee.{Float, inf, lt, eq}
+use lib.Ieee.{Float, inf, lt}
 use Rattle.lists.specs.Lists.{cells, numbers}
 use Rattle.tstat.specs.Tstat.{tstatOf, plainMean}
-use Rattle.draws.specs.Counts.{seedingOf, countOf}
+use Rattle.draws.specs.Counts.{seedingOf, tries, countOf}
 use Rattle.draws.specs.Draws.{Drawn, drawn, andThen}
+use Rattle.choice.specs.Replaces.{replaces}
 use Rattle.clustering.specs.Clustering.{kmeansOf}
 use Rattle.scoring.specs.Scoring.{scoresOf}
 
@@ -39,10 +40,6 @@ pub data Best : Type 0 where
   nothing : Best
   found : Candidate → Best
 
--- whether a t-stat and its mean replace those of the best: the t-stat is greater, or equal with a greater mean; a NaN is neither
-unfoldable pub replaces : Float → Float → Float → Float → Bool
-replaces stat mean bestStat bestMean = lt bestStat stat || (eq stat bestStat && lt bestMean mean)
-
 -- the first one need only be above -infinity
 abbrev pub keep : Candidate → Best → Best
 keep c nothing = cond (lt (inf true) (c .stat)) (found c) nothing
@@ -53,10 +50,6 @@ unfoldable pub triesFrom : (ℕ → ℕ → Float) → ℕ → ℕ → ℕ → B
 triesFrom x m k zero best at ds = drawn best ds
 triesFrom x m k (suc j) best at ds =
     andThen (kmeansOf x m k at ds) (λ g rest. triesFrom x m (suc k) j (keep (candidateOf x m (g .labels)) best) (at + seedingOf k) rest)
-
--- how many candidates a repeat has: one for each number of groups from 2 to max(m - 1, 2)
-abbrev pub tries : ℕ → ℕ
-tries m = max 2 (m - 1) - 1
 
 -- the best after r repeats more
 unfoldable pub repeatsFrom : (ℕ → ℕ → Float) → ℕ → ℕ → Best → ℕ → List ℕ → Drawn Best

@@ -3,29 +3,23 @@ use Prim.Native.Nat.{ℕ, _+_, _*_, _≤_}
 use mathlib.Core.Path.{_≡_}
 use mathlib.Core.List.{List}
 use lib.ListN.{length}
-use mathlib.Core.Bool.{Bool, true}
-use lib.Ieee.{Float, inf, lt}
+use lib.Ieee.{Float}
 use Rattle.draws.specs.Counts.{countOf}
 use Rattle.draws.specs.Draws.{Drawn, drawn, refused}
 use Rattle.draws.specs.declared.Stop.the-variants.{DrawOutOfRange}
-use Rattle.candidates.specs.declared.Kept.{Kept}
-use Rattle.candidates.specs.declared.Kept.the-variants.{Nothing, Candidate}
+use Rattle.choice.specs.declared.Kept.{Kept}
+use Rattle.choice.specs.declared.Kept.the-variants.{Nothing, Candidate}
 use Rattle.candidates.specs.declared.Searched.{Searched}
 use Rattle.candidates.specs.declared.Searched.the-variants.{Done, Stopped}
 use Rattle.candidates.specs.declared.Tried.{Tried}
 use Rattle.candidates.specs.declared.Tried.the-variants.{Made, Refused}
-use Rattle.candidates.specs.Candidates.{Best, nothing, found, replaces}
+use Rattle.candidates.specs.Candidates.{Best, nothing, found}
 use Rattle.candidates.specs.Candidates as candidates
 
 -- the t-stat and the mean of the best
 abbrev pub keptOf : Best → Kept
 keptOf nothing = Nothing
 keptOf (found c) = Candidate (c .stat) (c .mean)
-
--- whether a t-stat and its mean replace what is kept
-abbrev pub replacesKept : Float → Float → Kept → Bool
-replacesKept stat mean Nothing = lt (inf true) stat
-replacesKept stat mean (Candidate best bestMean) = replaces stat mean best bestMean
 
 -- the best, by what is kept and by the lists
 abbrev pub bestFrom : Kept → List ℕ → List Float → Best

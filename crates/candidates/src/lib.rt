@@ -3,19 +3,14 @@ ghost use mathlib.Core.Path.{_≡_};
 ghost use Prim.Native.Nat.{_≤_, _<_, _+_, _*_};
 ghost use lib.ListN.{length, take, drop};
 ghost use Rattle.columns.specs.Columns.{pointsAt};
-ghost use Rattle.draws.specs.Counts.{seedingOf, countOf};
+ghost use Rattle.draws.specs.Counts.{seedingOf, tries, countOf};
 ghost use Rattle.seeding.specs.Seeding.{MaySeed};
 ghost use Rattle.scoring.specs.Scoring.{Prepared};
-ghost use Rattle.candidates.specs.Candidates.{candidateFrom, triesFrom, tries, bestOf};
-ghost use Rattle.candidates.specs.Steps.{TriedBy, SearchedBy, Enough, Lists, bestFrom, replacesKept};
+ghost use Rattle.candidates.specs.Candidates.{candidateFrom, triesFrom, bestOf};
+ghost use Rattle.candidates.specs.Steps.{TriedBy, SearchedBy, Enough, Lists, bestFrom};
+use choice::Kept;
 use clustering::Clustered;
 use draws::Stop;
-
-// The t-stat and the plain mean of the best candidate so far, if there is one. Its labels and scores stand in lent lists.
-pub enum Kept {
-    Nothing,
-    Candidate(f64, f64),
-}
 
 // The place of the next draw and what is kept; or what ends the run.
 pub enum Searched {
@@ -27,24 +22,6 @@ pub enum Searched {
 enum Tried {
     Made(usize, f64, f64),
     Refused(Stop),
-}
-
-// Whether a candidate with this t-stat and this mean replaces what is kept.
-fn replaces(stat: f64, mean: f64, kept: Kept) -> bool
-    ensures { λ r. ⌜ r ≡ replacesKept stat mean kept ⌝ }
-{
-    match kept {
-        Kept::Nothing => -lists::infinity() < stat,
-        Kept::Candidate(best, best_mean) => {
-            if best < stat {
-                return true;
-            }
-            if stat == best {
-                return best_mean < mean;
-            }
-            false
-        }
-    }
 }
 
 // The candidate with k groups, with the draws from place `at` on: its labels and its scores in the lent lists. The fifth area holds
@@ -94,7 +71,7 @@ fn try_k(
     match candidate(area, m, k, draws, at, new_labels, new_scores) {
         Tried::Refused(s) => Searched::Stopped(s),
         Tried::Made(next, stat, mean) => {
-            if !replaces(stat, mean, kept) {
+            if !choice::replaces(stat, mean, kept) {
                 return Searched::Done(next, kept);
             }
             lists::copy_numbers(new_labels, labels);
@@ -102,18 +79,6 @@ fn try_k(
             Searched::Done(next, Kept::Candidate(stat, mean))
         }
     }
-}
-
-// One more than the greatest number of groups that is tried.
-fn groups_end(m: usize) -> usize
-    requires { ⌜ 2 ≤ m ⌝ }
-    ensures { λ r. ⌜ r ≡ tries m + 2 ⌝ }
-{
-    let most = m - 1;
-    if most < 2 {
-        return 3;
-    }
-    most + 1
 }
 
 // One repeat: each number of groups, from 2 on.
@@ -133,7 +98,7 @@ fn each_k(
         (from + countOf m) r (now (labels .exit)) (now (scores .exit)) ⌝ }
     ensures { λ _. ⌜ take (4 * (m * m)) (now (area .exit)) ≡ take (4 * (m * m)) (now (area .entry)) ⌝ }
 {
-    let end = groups_end(m);
+    let end = draws::groups_end(m);
     let mut at = from;
     let mut best = kept;
     for k in 2..end {

@@ -18,6 +18,10 @@ unfoldable pub seedingsOf : ℕ → ℕ → ℕ
 seedingsOf k zero = 0
 seedingsOf k (suc j) = seedingOf k + seedingsOf (suc k) j
 
+-- how many candidates a repeat has: one for each number of groups from 2 to max(m - 1, 2)
+abbrev pub tries : ℕ → ℕ
+tries m = max 2 (m - 1) - 1
+
 -- the draws of a round of m names: k from 2 to max(2, m - 1)
 unfoldable pub countOf : ℕ → ℕ
-countOf m = seedingsOf 2 (max 2 (m - 1) - 1)
+countOf m = seedingsOf 2 (tries m)

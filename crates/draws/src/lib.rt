@@ -1,8 +1,8 @@
 // Draws: how many a seeding and a round take, taking one from a list, a share, and what can end a run.
 ghost use mathlib.Core.Path.{_≡_};
-ghost use Prim.Native.Nat.{_≤_, _<_};
+ghost use Prim.Native.Nat.{_≤_, _<_, _+_};
 ghost use lib.ListN.{length, drop};
-ghost use Rattle.draws.specs.Counts.{trialsOf, seedingOf, countOf};
+ghost use Rattle.draws.specs.Counts.{trialsOf, seedingOf, tries, countOf};
 ghost use Rattle.draws.specs.Draws.{one, share};
 ghost use Rattle.draws.specs.Stops.{stopNumber, stopPlace, drawOf};
 
@@ -333,6 +333,18 @@ pub fn trials(k: usize) -> usize
         return 6;
     }
     7
+}
+
+// One more than the greatest number of groups that is tried. Inner form.
+pub fn groups_end(m: usize) -> usize
+    requires { ⌜ 2 ≤ m ⌝ }
+    ensures { λ r. ⌜ r ≡ tries m + 2 ⌝ }
+{
+    let most = m - 1;
+    if most < 2 {
+        return 3;
+    }
+    most + 1
 }
 
 // The draws of one seeding with k centres. Inner form: k from 1 to 256.

@@ -11,7 +11,7 @@ use Rattle.refusals.specs.Table.{Refusal, refused}
 use Rattle.refusals.proofs.Laws.{accepted, when-none, unless-none}
 use Rattle.onc_answers.specs.declared.Onc.{Onc}
 use Rattle.onc_answers.specs.Answers.{numberOf, placeOf, groupsOf, readOf, answerOf, shapeOf}
-use Rattle.onc.specs.Onc.{Lists, Outcome}
+use Rattle.onc_run.specs.Run.{Lists, Outcome}
 use Rattle.reports.proofs.Written.{places-are, refused-as}
 use Rattle.exports.specs.Grouping.{groupingReported}
 

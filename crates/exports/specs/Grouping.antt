@@ -5,7 +5,7 @@ use mathlib.Core.List.{List, [], _∷_}
 use lib.Dec.{eqb}
 use lib.ListN.{length}
 use Rattle.refusals.specs.Table.{Refusal}
-use Rattle.onc.specs.Onc.{Lists, Outcome}
+use Rattle.onc_run.specs.Run.{Lists, Outcome}
 
 -- the value, and each list after the call
 pub record GroupingReport : Type 0 where

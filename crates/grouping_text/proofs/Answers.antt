@@ -23,10 +23,11 @@ use Rattle.rounds.specs.Round.{Run, done, ended}
 use Rattle.rounds.proofs.Runs.{Whole}
 use Rattle.onc_answers.specs.declared.Onc.{Onc}
 use Rattle.onc_answers.specs.Answers.{Answer, numberOf, placeOf, groupsOf, readOf, answerOf, shapeOf}
-use Rattle.onc.specs.Onc.{Lists, Outcome, shape, runOf, ran, groupOf}
+use Rattle.onc_run.specs.Run.{Lists, Outcome, runOf, ran}
+use Rattle.onc.specs.Onc.{shape, groupOf}
 use Rattle.onc.proofs.Shapes.{shape-within}
 use Rattle.onc.proofs.Calls.{by-call}
-use Rattle.onc.proofs.Groupings.{run-whole}
+use Rattle.onc_run.proofs.Runs.{run-whole}
 use Rattle.answer_text.specs.Answer.{groupedText, refusedText, groupingFits, refusalFits, Writing, writtenOf}
 use Rattle.grouping_text.specs.Program.{runText, bookText}
 use Rattle.grouping_text.specs.Claim.{outcomeText, lentFor}

@@ -11,7 +11,8 @@ use Rattle.bits.specs.Bits.{doubleOf}
 use Rattle.partition.specs.Partition.{labelOf}
 use Rattle.partition.specs.Orders.{cut}
 use Rattle.onc_answers.specs.Answers.{listsFit}
-use Rattle.onc.specs.Onc.{Lists, Outcome, groupOf}
+use Rattle.onc_run.specs.Run.{Lists, Outcome}
+use Rattle.onc.specs.Onc.{groupOf}
 use Rattle.request_text.specs.Written.{requestText}
 use Rattle.request_text.specs.Claim.{Limits, InLayout}
 use Rattle.answer_text.specs.Answer.{groupedText, refusedText}

@@ -1,3 +1,3 @@
--- The weak groups, the merged ones, and their scores.
-pub mod Merged
+-- The choice (Better.antt), and the scores of merged groups (Laws.antt).
+pub mod Better
 pub mod Laws

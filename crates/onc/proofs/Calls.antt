@@ -13,8 +13,9 @@ use Rattle.partition.specs.Partition.{has}
 use Rattle.rounds.specs.Round.{Run, done, ended}
 use Rattle.onc_answers.specs.declared.Onc.{Onc}
 use Rattle.onc_answers.specs.Answers.{Answer, numberOf, answerOf, listsFit, shapeOf, refusing}
-use Rattle.onc.specs.Onc.{Lists, Outcome, shape, runOf, ran, groupOf}
-use Rattle.onc.specs.Demands.{Limits, Within, Demand1, grouping, not-started, not-ended}
+use Rattle.onc_run.specs.Run.{Lists, Outcome, Limits, runOf, ran}
+use Rattle.onc.specs.Onc.{shape, groupOf}
+use Rattle.onc.specs.Demands.{Within, Demand1, grouping, not-started, not-ended}
 use Rattle.onc.proofs.Shapes.{shape-cause, shape-place, shape-within, within-shape, shape-asked}
 
 module _ (book : List Float) (rows cols repeat : ℕ) (draws : List ℕ) (l : Lists) where

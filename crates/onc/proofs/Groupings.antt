@@ -9,7 +9,7 @@ use native.Mathlib.Decide.{decLt}
 use lib.ListN.{length, drop, List·getD-eq-default}
 use lib.Seq.{drop-drop}
 use lib.Ieee.{Float, nan}
-use Rattle.lists.specs.Lists.{listed, numbers, cellAt, flat, grid}
+use Rattle.lists.specs.Lists.{numbers, cellAt, flat, grid}
 use Rattle.lists.proofs.Listed.{length-listed, getD-listed}
 use Rattle.lists.proofs.Grid.{grid-at}
 use Rattle.distance.specs.Distance.{through, distAt}
@@ -24,22 +24,17 @@ use Rattle.candidates.specs.Ranges.{RoundOutOfRange}
 use Rattle.candidates.proofs.Laws.{Found, best-took}
 use Rattle.candidates.proofs.Bad.{best-bad}
 use Rattle.candidates.proofs.Failed.{best-none}
-use Rattle.rounds.specs.Round.{Run, done, ended, roundOf, needOf, totalOf}
+use Rattle.rounds.specs.Round.{Run, done, ended, needOf, totalOf}
 use Rattle.partition.proofs.Cuts.{cut-joined, groups-few, partition-length}
 use Rattle.partition.proofs.Labels.{label-is, member-below}
 use Rattle.base.proofs.Scored.{Scored}
-use Rattle.rounds.proofs.Runs.{Whole, whole, ScoredRun, scored}
-use Rattle.rounds.proofs.Spends.{ReachedFrom, start, further, BadDraw, NoCandidate, Spends, spends, searchOf as searchFrom, draws-none, draws-more, draws-one}
-use Rattle.onc.specs.Onc.{Lists, Outcome, runOf, finalOf, ran, groupOf}
+use Rattle.rounds.proofs.Runs.{Whole, ScoredRun}
+use Rattle.rounds.proofs.Spends.{ReachedFrom, start, further, BadDraw, NoCandidate, Spends, searchOf as searchFrom, draws-none, draws-more, draws-one}
+use Rattle.onc_run.specs.Run.{Lists, Outcome, runOf, finalOf, ran}
+use Rattle.onc_run.proofs.Runs.{all, all-length, run-spends, run-whole, run-scored}
+use Rattle.onc.specs.Onc.{groupOf}
 use Rattle.onc.specs.Demands.{Within, outputs, groupsIn, labelsIn, GroupingOf, searchOf, Reached, first, next, MeetsDraw, MeetsNone, NoneRefused, Demand2}
 use Rattle.onc.proofs.Calls.{within-ran}
-
--- the rows of the first round
-abbrev pub all : ℕ → List ℕ
-all n = listed (λ i. i) n
-
-pub all-length : (n : ℕ) → length (all n) ≡ n
-all-length n = length-listed (λ i. i) n
 
 -- the sizes: those of the groups, and 0 after the last
 size-at : (n : ℕ) (gs : List (List ℕ)) (g : ℕ) → g < n → numbers (sizesOf n gs) g ≡ length (groupAt gs g)
@@ -83,24 +78,6 @@ ran-grouping book n s ms read rest l p scores =
       ordered-long = length-listed (flat (through book n (joined (s .groups))) n) (n * n);
       matrix = ordered-at book n (joined (s .groups));
     }
-
--- what the run takes of its draws
-pub run-spends : (book : List Float) (n repeat : ℕ) (draws : List ℕ) → 2 ≤ n → Spends book n repeat 32 (all n) 0 draws (runOf book n repeat draws)
-unfolding runOf
-run-spends book n repeat draws two = spends book n repeat 32 (all n) 0 draws (omega (arith, all-length n))
-
--- and that it ends in a partition of all names, where it ends in groups
-pub run-whole : (book : List Float) (n repeat : ℕ) (draws : List ℕ) → 2 ≤ n → Whole n (runOf book n repeat draws)
-unfolding runOf
-run-whole book n repeat draws two =
-    subst (λ (m : ℕ). Whole m (roundOf book n repeat 32 (all n) 0 draws)) (all-length n) (whole book n repeat 32 (all n) 0 draws (omega (arith, all-length n)))
-
--- with their scores
-pub run-scored : (book : List Float) (n repeat : ℕ) (draws : List ℕ) → 2 ≤ n → ScoredRun (distAt book n (all n)) n (runOf book n repeat draws)
-unfolding runOf
-run-scored book n repeat draws two =
-    subst (λ (m : ℕ). ScoredRun (distAt book n (all n)) m (roundOf book n repeat 32 (all n) 0 draws)) (all-length n)
-    (scored book n repeat 32 (all n) 0 draws (omega (arith, all-length n)))
 
 -- the draws of rounds one after the other
 pub draws-append : (repeat : ℕ) (before : List ℕ) (m : ℕ) → totalOf repeat (before ++ (m ∷ [])) ≡ totalOf repeat before + needOf repeat m

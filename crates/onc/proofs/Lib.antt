@@ -3,5 +3,4 @@ pub mod Calls
 pub mod Demands
 pub mod Groupings
 pub mod Reading
-pub mod Running
 pub mod Shapes

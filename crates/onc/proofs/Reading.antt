@@ -16,11 +16,13 @@ use Rattle.partition.specs.Partition.{State}
 use Rattle.candidates.specs.Candidates.{found}
 use Rattle.rounds.specs.Round.{Run, done, ended, needOf, totalOf}
 use Rattle.rounds.proofs.Spends.{Spends}
-use Rattle.onc.specs.Onc.{Lists, Outcome, shape, runOf, finalOf, ran, groupOf}
+use Rattle.onc_run.specs.Run.{Lists, Outcome, runOf, finalOf, ran}
+use Rattle.onc.specs.Onc.{shape, groupOf}
 use Rattle.onc.specs.Demands.{Cause, no-repeat, not-square, few-rows, many-rows, many-repeats, cell-count, list-length, outputs, labelsIn, roundsOf, AsLong, Counted, EndsBy, Tells, Demand3}
 use Rattle.onc.proofs.Shapes.{shape-cause, shape-within, shape-same}
 use Rattle.onc.proofs.Calls.{call-ran, by-call, within-ran}
-use Rattle.onc.proofs.Groupings.{all, all-length, run-spends, search-same, reached-same, meets-draw, meets-none}
+use Rattle.onc_run.proofs.Runs.{all, all-length, run-spends}
+use Rattle.onc.proofs.Groupings.{search-same, reached-same, meets-draw, meets-none}
 
 -- no refusal before the run has the number 0 or 7
 not-seven : {book : List Float} {rows cols repeat : ℕ} {l : Lists} {k : ℕ} → Cause book rows cols repeat l k → k ≡ 7 → ⊥

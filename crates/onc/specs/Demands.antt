@@ -7,7 +7,7 @@ use mathlib.Core.List.{List, [], _∷_, _++_}
 use lib.ListN.{length, take, drop}
 use lib.Ieee.{Float}
 use Rattle.lists.specs.Lists.{listed, numbers, cellAt}
-use Rattle.refusals.specs.Table.{none, workDoubles, workNumbers, wiped, wipedNumbers}
+use Rattle.refusals.specs.Table.{none, wiped, wipedNumbers}
 use Rattle.distance.specs.Distance.{distAt}
 use Rattle.scoring.specs.Scoring.{scoresOf}
 use Rattle.draws.specs.Draws.{Drawn, drawn, refused}
@@ -19,10 +19,12 @@ use Rattle.candidates.specs.Ranges.{RoundOutOfRange}
 use Rattle.candidates.specs.Failed.{NoStats}
 use Rattle.quality.specs.Quality.{qualitiesOf, weakCount}
 use Rattle.base.specs.Base.{baseOf}
-use Rattle.improve.specs.Improve.{weakItems}
-use Rattle.rounds.specs.Round.{Run, done, ended, needOf, rowsOf, totalOf}
+use Rattle.merging.specs.Merging.{weakItems}
+use Rattle.rows.specs.Rows.{rowsOf}
+use Rattle.rounds.specs.Round.{Run, done, ended, needOf, totalOf}
 use Rattle.onc_answers.specs.Answers.{Answer, listsFit, refusing}
-use Rattle.onc.specs.Onc.{Lists, Outcome, runOf, ran, groupOf}
+use Rattle.onc_run.specs.Run.{Lists, Outcome, Limits, runOf, ran}
+use Rattle.onc.specs.Onc.{groupOf}
 
 -- what a call returns and leaves in its outputs
 pub record Outputs : Type 0 where
@@ -52,19 +54,7 @@ pub record Wiped (n : ℕ) (o : Outcome) (l : Lists) : Type 0 where
   pub floats : o .lists .floats ≡ wiped n (l .floats)
   pub numbers : o .lists .numbers ≡ wipedNumbers n (l .numbers)
 
--- a book and repeats within the limits, and lists of the lengths that the call asks for: `order`, `sizes` and the other names are lengths
-pub record Limits (book : List Float) (n repeat order sizes scores floats numbers : ℕ) : Type 0 where
-  pub two : 2 ≤ n
-  pub few : n ≤ 256
-  pub some : 1 ≤ repeat
-  pub times : repeat ≤ 64
-  pub square : length book ≡ n * n
-  pub order-long : order ≡ n
-  pub sizes-long : sizes ≡ n
-  pub scores-long : scores ≡ n
-  pub floats-long : workDoubles n ≤ floats
-  pub numbers-long : workNumbers n ≤ numbers
-
+-- a call within the limits of a run (Limits in onc_run/specs/Run.antt: 2 to 256 names, 1 to 64 repeats, and lists of the lengths that the call asks for)
 pub record Within (book : List Float) (n repeat : ℕ) (l : Lists) : Type 0 where
   pub limits : Limits book n repeat (length (l .order)) (length (l .sizes)) (length (l .scores)) (length (l .floats)) (length (l .numbers))
   pub ordered-long : length (l .ordered) ≡ n * n

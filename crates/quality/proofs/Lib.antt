@@ -2,4 +2,3 @@
 pub mod Splits
 pub mod Weak
 pub mod Gathered
-pub mod Picking

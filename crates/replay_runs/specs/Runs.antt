@@ -6,7 +6,8 @@ use lib.ListN.{length, replicate}
 use lib.Ieee.{Float}
 use Rattle.words.specs.Words.{wordFrom, sizeFrom, doublesFrom, wordsFrom, sameNumbers, sameDoubles, seven, namesWiped, leftLists, countsBy}
 use Rattle.onc_answers.specs.Answers.{Answer}
-use Rattle.onc.specs.Onc.{Lists, Outcome, groupOf}
+use Rattle.onc_run.specs.Run.{Lists, Outcome}
+use Rattle.onc.specs.Onc.{groupOf}
 use Rattle.words.specs.declared.Counts.{Counts}
 use Rattle.replay_runs.specs.declared.Case.{Case}
 

@@ -1,10 +1,9 @@
--- `end_with` and `choose`, in plain lists: from what their calls leave to what they ensure.
+-- `end_with`, in plain lists: from what its calls leave to what it ensures.
 use Prim.Native.Nat.{ℕ, _+_, _*_, _≤_}
 use mathlib.Core.Path.{_≡_, refl, sym, _∙_, ap}
 use mathlib.Core.List.{List}
 use native.Mathlib.Nat.{mul-le-mul, mul-le-mul-right}
 use native.Mathlib.Omega.{arith}
-use denote.Ref.{RefT}
 use lib.ListN.{length, take, drop}
 use lib.Seq.{length-take-le, take-at}
 use lib.Ieee.{Float}
@@ -16,18 +15,12 @@ use Rattle.partition.specs.Orders.{Sized, sizesOf, cut}
 use Rattle.partition.proofs.Cuts.{cut-order, cut-length}
 use Rattle.quality.specs.Quality.{qualitiesOf, weakMean}
 use Rattle.choice.specs.Choice.{chosen}
-use Rattle.choice.proofs.Laws.{chosen-ap, chosen-same}
-use Rattle.improve.specs.Improve.{weakItems, mergedOf, rescored, meanQuality, betterOf}
-use Rattle.improve.specs.Steps.{stateOf, WeakListed, Improvable, Improves}
+use Rattle.choice.proofs.Laws.{chosen-ap}
+use Rattle.merging.specs.Merging.{weakItems, mergedOf}
+use Rattle.improve.specs.Improve.{rescored, meanQuality, betterOf}
+use Rattle.merging.specs.Steps.{stateOf, WeakListed, Improvable}
+use Rattle.improve.specs.Steps.{Improves}
 use Rattle.round_end.specs.Steps.{InnerEnded, RoundEnded}
-
--- the list that the choice hands back
-module _ (new old : Float) (a b : RefT (List ℕ)) {r : RefT (List ℕ)} (e : r ≡ chosen new old a b) where
-  pub kept-list : r .now ≡ chosen new old (a .now) (b .now)
-  kept-list = ap (λ (x : RefT (List ℕ)). x .now) e ∙ chosen-ap (λ (x : RefT (List ℕ)). x .now) new old a b
-
-  pub kept-length : {k : ℕ} → length (a .now) ≡ k → length (b .now) ≡ k → length (r .now) ≡ k
-  kept-length {k} la lb = ap length kept-list ∙ chosen-ap (λ (x : List ℕ). length x) new old (a .now) (b .now) ∙ rw (la, lb) (chosen-same new old k)
 
 module _ (book : List Float) (n left count inner w : ℕ) (order sizes : List ℕ) (scores : List Float) (wi : List ℕ) (wf : List Float)
     (U : InnerEnded book n left count inner w order sizes scores wi wf) where

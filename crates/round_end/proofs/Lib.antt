@@ -1,2 +1,2 @@
--- From what the calls of `choose` and `end_round` leave to what they ensure.
+-- From what the calls of `end_with` leave to what it ensures.
 pub mod Ends

@@ -6,49 +6,9 @@ ghost use lib.ListN.{length, take};
 ghost use Rattle.lists.specs.Lists.{part};
 ghost use Rattle.distance.specs.Distance.{distAt};
 ghost use Rattle.partition.specs.Orders.{cut};
-ghost use Rattle.choice.specs.Choice.{chosen};
 ghost use Rattle.improve.specs.Improve.{betterOf};
-ghost use Rattle.improve.specs.Steps.{stateOf};
+ghost use Rattle.merging.specs.Steps.{stateOf};
 ghost use Rattle.round_end.specs.Steps.{InnerEnded, WorkLists, RoundEnded};
-use choice::check_improve_clusters;
-
-// The partition that is chosen as the answer, by the mean t-stats of the new one and of the weak groups of the old one; and how many groups it has.
-fn choose<'a>(
-    new_mean: f64,
-    old_mean: f64,
-    old_groups: usize,
-    new_groups: usize,
-    old_order: &'a [usize],
-    new_order: &'a [usize],
-    old_sizes: &'a [usize],
-    new_sizes: &'a [usize],
-    old_scores: &[f64],
-    new_scores: &[f64],
-    order: &mut [usize],
-    sizes: &mut [usize],
-    scores: &mut [f64],
-) -> usize
-    requires { ⌜ (length (now «old_order») ≡ length (now order)) × (length (now «new_order») ≡ length (now order)) × (length (now «old_sizes») ≡ length (now sizes)) × (length (now «new_sizes») ≡ length (now sizes))
-        × (length (now «old_scores») ≡ length (now scores)) × (length (now «new_scores») ≡ length (now scores)) ⌝ }
-    ensures { λ r. ⌜ (r ≡ chosen «new_mean» «old_mean» «old_groups» «new_groups») × (now (order .exit) ≡ chosen «new_mean» «old_mean» (now («old_order» .entry)) (now («new_order» .entry)))
-        × (now (sizes .exit) ≡ chosen «new_mean» «old_mean» (now («old_sizes» .entry)) (now («new_sizes» .entry)))
-        × (now (scores .exit) ≡ chosen «new_mean» «old_mean» (now («old_scores» .entry)) (now («new_scores» .entry))) ⌝ }
-{
-    lists::copy_numbers(
-        check_improve_clusters(new_mean, old_mean, old_order, new_order),
-        order,
-    );
-    lists::copy_numbers(
-        check_improve_clusters(new_mean, old_mean, old_sizes, new_sizes),
-        sizes,
-    );
-    if new_mean > old_mean {
-        lists::copy(new_scores, scores);
-        return new_groups;
-    }
-    lists::copy(old_scores, scores);
-    old_groups
-}
 
 // The better of the round's base, of `count` groups, and the partition in which the inner one, of `inner` groups, stands for its weak groups. The
 // inner one stands at the front of `order` and `sizes`, w items long. The last five lists are to work in. Answers how many groups.
@@ -84,7 +44,7 @@ fn end_with(
     let off = left * n;
     let end = off + 5 * (m * m);
     lists::copy(&wf[..m], old_scores);
-    let weak = improve::weak_items(&wi[n..second], &wi[from..third], count, old_scores, items);
+    let weak = merging::weak_items(&wi[n..second], &wi[from..third], count, old_scores, items);
     let improved = improve::improve_clusters(
         book,
         n,
@@ -102,7 +62,7 @@ fn end_with(
         new_sizes,
         new_scores,
     );
-    choose(
+    choice::choose(
         improved.mean,
         weak.mean,
         count,

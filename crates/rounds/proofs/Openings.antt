@@ -22,11 +22,13 @@ use Rattle.candidates.specs.Candidates.{Best, nothing, found, bestOf}
 use Rattle.candidates.specs.Steps.{Enough}
 use Rattle.base.specs.Base.{baseOf, basedOf, BasedBy, Leaves}
 use Rattle.base.specs.declared.Based.the-variants as based
-use Rattle.improve.specs.Improve.{weakItems}
-use Rattle.improve.specs.Steps.{stateOf}
+use Rattle.merging.specs.Merging.{weakItems}
+use Rattle.merging.specs.Steps.{stateOf}
 use Rattle.rounds.specs.declared.RoundStart.the-variants as roundStart
-use Rattle.rounds.specs.Round.{Opening, started, unstarted, ofBest, openingOf, needOf, rowsOf}
-use Rattle.rounds.specs.Steps.{MayStart, RoundStarted, Stored, WeakFound, Room}
+use Rattle.rows.specs.Rows.{rowsOf}
+use Rattle.rounds.specs.Round.{Opening, started, unstarted, ofBest, openingOf, needOf}
+use Rattle.storing.specs.Steps.{Stored, WeakFound, Room}
+use Rattle.rounds.specs.Steps.{MayStart, RoundStarted}
 use Rattle.rounds.proofs.Runs.{OpeningTook, opening-took}
 use Rattle.rounds.proofs.Standing.{stands-sized, stands-state}
 

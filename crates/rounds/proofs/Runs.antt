@@ -18,13 +18,16 @@ use Rattle.partition.specs.Partition.{Partition, State}
 use Rattle.quality.specs.Quality.{qualitiesOf, weakCount, weakMean}
 use Rattle.candidates.specs.Candidates.{Candidate, Best, nothing, found, bestOf}
 use Rattle.base.specs.Base.{baseOf}
-use Rattle.improve.specs.Improve.{weakItems, mergedOf, rescored, meanQuality, betterOf}
-use Rattle.rounds.specs.Round.{Run, done, ended, Opening, started, unstarted, ofBest, openingOf, afterOpening, roundOf, needOf, rowsOf, afterInner}
+use Rattle.merging.specs.Merging.{weakItems, mergedOf}
+use Rattle.improve.specs.Improve.{rescored, meanQuality, betterOf}
+use Rattle.rows.specs.Rows.{rowsOf}
+use Rattle.rounds.specs.Round.{Run, done, ended, Opening, started, unstarted, ofBest, openingOf, afterOpening, roundOf, needOf, afterInner}
 use Rattle.scoring.proofs.Laws.{scores-length}
 use Rattle.partition.proofs.Groups.{groups-partition}
 use Rattle.candidates.proofs.Laws.{best-took, Found}
 use Rattle.base.proofs.Scored.{Scored, base-scored}
-use Rattle.improve.proofs.Merged.{weak-many, better-partition, better-scores}
+use Rattle.merging.proofs.Merged.{weak-many}
+use Rattle.improve.proofs.Better.{better-partition, better-scores}
 
 -- how many groups of a base are weak
 abbrev pub weakIn : State → ℕ

@@ -21,10 +21,12 @@ use Rattle.distance.specs.Distance.{distAt}
 use Rattle.partition.specs.Partition.{State}
 use Rattle.candidates.specs.Candidates.{Candidate, Best, nothing, found, bestOf}
 use Rattle.base.specs.Base.{baseOf}
-use Rattle.improve.specs.Improve.{weakItems, betterOf}
-use Rattle.rounds.specs.Round.{Run, done, ended, Opening, started, unstarted, ofBest, openingOf, afterOpening, roundOf, needOf, rowsOf, afterInner, totalOf}
+use Rattle.merging.specs.Merging.{weakItems}
+use Rattle.improve.specs.Improve.{betterOf}
+use Rattle.rows.specs.Rows.{rowsOf}
+use Rattle.rounds.specs.Round.{Run, done, ended, Opening, started, unstarted, ofBest, openingOf, afterOpening, roundOf, needOf, afterInner, totalOf}
 use Rattle.candidates.proofs.Laws.{best-took, best-behind, Found}
-use Rattle.improve.proofs.Merged.{weak-few, weak-many}
+use Rattle.merging.proofs.Merged.{weak-few, weak-many}
 use Rattle.rounds.proofs.Runs.{weakIn, OpeningTook, opening-took, round-kept, round-again}
 
 -- no round has more than m items

@@ -7,7 +7,7 @@ use lib.Ieee.{Float}
 use Rattle.partition.specs.Partition.{State, Partition, joined}
 use Rattle.partition.specs.Orders.{Sized, sizesOf, cut}
 use Rattle.partition.proofs.Cuts.{cut-joined, sized-of, groups-few}
-use Rattle.improve.specs.Steps.{stateOf, PartitionLists}
+use Rattle.merging.specs.Steps.{stateOf, PartitionLists}
 
 module _ (m : ℕ) (s : State) (few : m ≤ 256) (p : Partition m (s .groups)) {count : ℕ} {order sizes : List ℕ} (c : count ≡ length (s .groups))
     (o : order ≡ joined (s .groups)) (z : sizes ≡ sizesOf m (s .groups)) where

@@ -1,11 +1,10 @@
 -- The rounds of a run: one on the whole book, then one more each time that weak groups are clustered again. Definitions only.
 use Prim.Native.Nat.{ℕ, zero, suc, _+_, _*_}
 use mathlib.Core.Bool.{cond}
-use mathlib.Core.List.{List, [], _∷_, map}
+use mathlib.Core.List.{List, [], _∷_}
 use lib.Dec.{ltb, leb}
 use lib.ListN.{length}
 use lib.Ieee.{Float}
-use Rattle.lists.specs.Lists.{numbers}
 use Rattle.draws.specs.Counts.{countOf}
 use Rattle.draws.specs.Draws.{Drawn, drawn, refused}
 use Rattle.draws.specs.declared.Stop.{Stop}
@@ -15,7 +14,9 @@ use Rattle.partition.specs.Partition.{State}
 use Rattle.quality.specs.Quality.{qualitiesOf, weakCount}
 use Rattle.candidates.specs.Candidates.{Best, nothing, found, bestOf}
 use Rattle.base.specs.Base.{baseOf}
-use Rattle.improve.specs.Improve.{weakItems, betterOf}
+use Rattle.rows.specs.Rows.{rowsOf}
+use Rattle.merging.specs.Merging.{weakItems}
+use Rattle.improve.specs.Improve.{betterOf}
 
 -- the draws of a round of m items
 abbrev pub needOf : ℕ → ℕ → ℕ
@@ -48,10 +49,6 @@ openingOf book n repeats rows read ds =
 abbrev pub afterInner : (ℕ → ℕ → Float) → ℕ → State → Run → Run
 afterInner x m base (done inner ms read rest) = done (betterOf x m base (inner .groups)) (m ∷ ms) read rest
 afterInner x m base (ended s ms) = ended s (m ∷ ms)
-
--- the rows of the items, as rows of the book
-abbrev pub rowsOf : List ℕ → List ℕ → List ℕ
-rowsOf rows items = map (numbers rows) items
 
 -- the round after its start: two weak groups or fewer, and the base stands; `again` is the whole round on other rows, with the draws read and those that remain
 unfoldable pub afterOpening : (List ℕ → ℕ → List ℕ → Run) → List Float → ℕ → List ℕ → ℕ → Opening → Run

@@ -14,14 +14,16 @@ use Rattle.draws.specs.declared.Stop.the-variants.{Rounds}
 use Rattle.distance.specs.Distance.{Readable, distAt}
 use Rattle.partition.specs.Partition.{State, Partition, joined}
 use Rattle.partition.specs.Orders.{sizesOf, cut}
-use Rattle.improve.specs.Improve.{weakItems, betterOf}
-use Rattle.improve.specs.Steps.{stateOf, PartitionLists, Improvable}
-use Rattle.improve.proofs.Merged.{weak-few, weak-below, weak-many}
+use Rattle.merging.specs.Merging.{weakItems}
+use Rattle.improve.specs.Improve.{betterOf}
+use Rattle.merging.specs.Steps.{stateOf, PartitionLists, Improvable}
+use Rattle.merging.proofs.Merged.{weak-few, weak-below, weak-many}
 use Rattle.top.specs.declared.Top.{Top}
 use Rattle.top.specs.declared.Top.the-variants.{Done, Stopped}
 use Rattle.rounds.specs.declared.RoundStart.{RoundStart}
 use Rattle.rounds.specs.declared.RoundStart.the-variants as roundStart
-use Rattle.rounds.specs.Round.{Run, done, ended, Opening, started, unstarted, openingOf, roundOf, needOf, rowsOf, afterInner}
+use Rattle.rows.specs.Rows.{rowsOf}
+use Rattle.rounds.specs.Round.{Run, done, ended, Opening, started, unstarted, openingOf, roundOf, needOf, afterInner}
 use Rattle.rounds.specs.Steps.{RoundStarted, Starts, BaseAt, roundStartOf}
 use Rattle.round_end.specs.Steps.{InnerEnded, RoundEnded}
 use Rattle.top.specs.Steps.{Ready, RoundLeaves, topOf, orderAfter, sizesAfter, scoresAfter}

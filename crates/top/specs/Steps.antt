@@ -1,4 +1,4 @@
--- What a round asks and leaves. Definitions only. Where things stand in the two lists of the run: crates/rounds/specs/Steps.antt.
+-- What a round asks and leaves. Definitions only. Where things stand in the two lists of the run: crates/storing/specs/Steps.antt.
 use Prim.Native.Nat.{ℕ, _+_, _*_, _≤_}
 use mathlib.Core.Path.{_≡_}
 use mathlib.Core.List.{List}

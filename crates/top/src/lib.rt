@@ -1,11 +1,8 @@
 // A round: its start, the re-clustering of its weak items, which is the whole round again on a book of their own, and the choice between the
 // two partitions. Inner form, for the public call.
-ghost use mathlib.Core.Path.{_≡_};
 ghost use Prim.Native.Nat.{_*_};
 ghost use lib.ListN.{length, take, drop};
-ghost use Rattle.lists.specs.Lists.{part};
 ghost use Rattle.rounds.specs.Round.{roundOf};
-ghost use Rattle.rounds.specs.Steps.{Room};
 ghost use Rattle.top.specs.Steps.{Ready, RoundLeaves};
 use draws::Stop;
 use rounds::RoundStart;
@@ -14,28 +11,6 @@ use rounds::RoundStart;
 pub enum Top {
     Done(usize, usize),
     Stopped(Stop),
-}
-
-// The base as the answer.
-fn keep(
-    n: usize,
-    order: &mut [usize],
-    sizes: &mut [usize],
-    scores: &mut [f64],
-    wi: &[usize],
-    wf: &[f64],
-)
-    requires { ⌜ Room n (length (now order)) (now wi) (now wf) × (length (now sizes) ≡ length (now order)) × (length (now scores) ≡ length (now order)) ⌝ }
-    ensures { λ _. ⌜ (now (order .exit) ≡ part n (length (now (order .entry))) (now (wi .entry))) × (now (sizes .exit) ≡ part (2 * n) (length (now (order .entry))) (now (wi .entry)))
-        × (now (scores .exit) ≡ take (length (now (order .entry))) (now (wf .entry))) ⌝ }
-{
-    let m = order.len();
-    let end = n + m;
-    lists::copy_numbers(&wi[n..end], order);
-    let from = 2 * n;
-    let last = from + m;
-    lists::copy_numbers(&wi[from..last], sizes);
-    lists::copy(&wf[..m], scores);
 }
 
 // A round with `left` rounds left, on the rows at the front of `wi`. Its answer goes to `order`, `sizes` and `scores`, which have a place for each of
@@ -67,7 +42,7 @@ pub fn cluster_kmeans_top(
         RoundStart::Stopped(s) => Top::Stopped(s),
         RoundStart::Base(groups, weak, w, after) => {
             if weak <= 2 {
-                keep(n, order, sizes, scores, &wi[..], &wf[..]);
+                storing::keep(n, order, sizes, scores, &wi[..], &wf[..]);
                 return Top::Done(groups, after);
             }
             let below = 3 * n;

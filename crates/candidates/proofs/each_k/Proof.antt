@@ -4,11 +4,11 @@ use native.Mathlib.Omega.{arith}
 use lib.ListN.{drop, length, take}
 use lib.Ieee.{Float}
 use borrow.Author.Needs.{needs}
-use Rattle.draws.specs.Counts.{countOf, seedingOf, seedingsOf}
+use Rattle.draws.specs.Counts.{countOf, seedingOf, seedingsOf, tries}
 use Rattle.candidates.specs.Steps.{Lists, SearchedBy, bestFrom}
 use Rattle.columns.specs.Columns.{pointsAt}
 use Rattle.scoring.proofs.Laws.{points-stay, round-kept}
-use Rattle.candidates.specs.Candidates.{tries, triesFrom}
+use Rattle.candidates.specs.Candidates.{triesFrom}
 use Rattle.candidates.proofs.Turns.{left-more, left-none, lists-stay, tries-none, turn-done, turn-stopped}
 use Rattle.candidates.proofs.Laws.{count-is, tries-few}
 use Rattle.candidates.proofs.Answers.{done-by, stopped-by}

@@ -5,9 +5,10 @@ use lib.ListN.{drop}
 use borrow.Author.Tests.{not-false, not-true}
 use borrow.Author.Needs.{needs}
 use Rattle.draws.specs.Counts.{seedingOf}
-use Rattle.candidates.specs.Steps.{TriedBy, bestFrom, replacesKept}
+use Rattle.choice.specs.Replaces.{replaces, replacesKept}
+use Rattle.candidates.specs.Steps.{TriedBy, bestFrom}
 use Rattle.columns.specs.Columns.{pointsAt}
-use Rattle.candidates.specs.Candidates.{candidate, candidateFrom, replaces}
+use Rattle.candidates.specs.Candidates.{candidate, candidateFrom}
 use Rattle.candidates.proofs.Turns.{try-new, try-old, try-refused}
 use Rattle.candidates.specs.declared.Tried.the-variants.{Made, Refused}
 use Rattle.candidates.proofs.try_k.Statement.{statement}

@@ -13,7 +13,7 @@ use Rattle.top.proofs.cluster_kmeans_top.Reads as cluster-kmeans-top
 use Rattle.top.proofs.cluster_kmeans_top.Kinds as cluster-kmeans-top-kinds
 use Rattle.top.proofs.+cluster_kmeans_top.Lts-cluster_kmeans_top as cluster-kmeans-top-lts
 use Rattle.rounds.proofs.start_round.Reads as start-round-reads
-use Rattle.top.proofs.keep.Reads as keep-reads
+use Rattle.storing.proofs.keep.Reads as keep-reads
 use Rattle.round_end.proofs.end_round.Reads as end-round-reads
 use Rattle.top.proofs.+cluster_kmeans_top.{statement}
 use Rattle.top.proofs.+cluster_kmeans_top.Tie.{close}

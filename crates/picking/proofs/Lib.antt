@@ -1,0 +1,2 @@
+-- The picked groups while they are copied.
+pub mod Picking

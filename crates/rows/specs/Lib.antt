@@ -1,0 +1,2 @@
+-- The one translation of row numbers.
+pub mod Rows

@@ -1,0 +1,2 @@
+-- From what the calls leave to what the functions ensure.
+pub mod Storing
