@@ -2,7 +2,7 @@
 ghost use mathlib.Core.Path.{_≡_};
 ghost use mathlib.Core.Bool.{false};
 ghost use lib.ListN.{length};
-ghost use Rattle.onc_answers.specs.Answers.{shapeOf};
+ghost use Rattle.onc_checks.specs.Checks.{shapeOf};
 ghost use Rattle.onc.specs.Onc.{groupOf};
 ghost use Rattle.exports.specs.Grouping.{groupingReported};
 

@@ -12,7 +12,8 @@ use Rattle.draws.specs.declared.Stop.the-variants.{Rounds, Short, DrawOutOfRang
 use Rattle.partition.specs.Partition.{has}
 use Rattle.rounds.specs.Round.{Run, done, ended}
 use Rattle.onc_answers.specs.declared.Onc.{Onc}
-use Rattle.onc_answers.specs.Answers.{Answer, numberOf, answerOf, listsFit, shapeOf, refusing}
+use Rattle.onc_answers.specs.Answers.{Answer, numberOf, answerOf, refusing}
+use Rattle.onc_checks.specs.Checks.{listsFit, shapeOf}
 use Rattle.onc.specs.Onc.{Lists, Outcome, shape, runOf, ran, groupOf}
 use Rattle.onc.specs.Demands.{Limits, Within, Demand1, grouping, not-started, not-ended}
 use Rattle.onc.proofs.Shapes.{shape-cause, shape-place, shape-within, within-shape, shape-asked}

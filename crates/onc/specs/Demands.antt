@@ -21,7 +21,8 @@ use Rattle.quality.specs.Quality.{qualitiesOf, weakCount}
 use Rattle.base.specs.Base.{baseOf}
 use Rattle.improve.specs.Improve.{weakItems}
 use Rattle.rounds.specs.Round.{Run, done, ended, needOf, rowsOf, totalOf}
-use Rattle.onc_answers.specs.Answers.{Answer, listsFit, refusing}
+use Rattle.onc_answers.specs.Answers.{Answer, refusing}
+use Rattle.onc_checks.specs.Checks.{listsFit}
 use Rattle.onc.specs.Onc.{Lists, Outcome, runOf, ran, groupOf}
 
 -- what a call returns and leaves in its outputs

@@ -1,6 +1,7 @@
 -- The grouping of a book. Read Demands.antt first: the three demands, in their own words, over `groupOf`. Then the definition, from the top:
 --   Onc.antt                             groupOf: the refusals, the run, and what each list holds afterwards
---   onc_answers/specs/Answers.antt       what an answer says, and the refusals before the run
+--   onc_answers/specs/Answers.antt       what an answer says
+--   onc_checks/specs/Checks.antt         the refusals before the run
 --   rounds/specs/Round.antt              roundOf: a round, its re-clustering, the rounds that are left
 --   improve/specs/Improve.antt           betterOf: the weak groups clustered again, and the choice (choice/specs/Choice.antt)
 --   quality/specs/Quality.antt           the t-stat of a group, and which are weak

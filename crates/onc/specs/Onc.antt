@@ -13,7 +13,8 @@ use Rattle.draws.specs.Stops.{stopNumber, stopPlace}
 use Rattle.partition.specs.Partition.{joined}
 use Rattle.partition.specs.Orders.{sizesOf}
 use Rattle.rounds.specs.Round.{Run, done, ended, roundOf}
-use Rattle.onc_answers.specs.Answers.{Answer, refusing, listsFit, shapeOf}
+use Rattle.onc_answers.specs.Answers.{Answer, refusing}
+use Rattle.onc_checks.specs.Checks.{listsFit, shapeOf}
 
 -- the lists that a call is lent: four outputs, two to work in
 pub record Lists : Type 0 where
