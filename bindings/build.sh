@@ -1,19 +1,27 @@
 #!/usr/bin/env bash
-# Builds the library for C, Rust and Python: the static archive by `rt staticlib exports`, and from it the shared object
-# target/lib/libonc.so, which shows the onc_ functions alone. Prints where both are.
+# Builds the library for C, Rust and Python: the two archives by `rt staticlib statistics_exports` and `rt staticlib exports`, of both the
+# static archive target/lib/libonc.a, and from it the shared object target/lib/libonc.so, which shows the onc_ functions alone. Prints
+# where the last two are.
 #   bash bindings/build.sh
-# LIBRARY names an archive to use instead of the one that rt writes; CC the C compiler that links (cc).
+# LIBRARY names an archive with all the functions, to use instead of the one made of what rt writes; CC the C compiler that links (cc); AR the
+# archiver (ar).
 set -euo pipefail
 root=$(cd "$(dirname "${BASH_SOURCE[0]}")/.." && pwd)
+mkdir -p "$root/target/lib"
 archive=${LIBRARY:-}
 if [ -n "$archive" ]; then
   [ -f "$archive" ] || { echo "build.sh: LIBRARY names $archive, which is no file" >&2; exit 2; }
   archive=$(cd "$(dirname "$archive")" && pwd)/$(basename "$archive")
 else
-  (cd "$root" && rt staticlib exports >&2)
-  archive=$root/target/staticlib/libexports.a
+  (cd "$root" && rt staticlib statistics_exports >&2 && rt staticlib exports >&2)
+  archive=$root/target/lib/libonc.a
+  # each archive has one object, named for its crate
+  work=$(mktemp -d)
+  trap 'rm -rf "$work"' EXIT
+  (cd "$work" && for crate in statistics_exports exports; do "${AR:-ar}" x "$root/target/staticlib/lib$crate.a" "$crate.o"; done)
+  "${AR:-ar}" rcs "$work/libonc.a" "$work/statistics_exports.o" "$work/exports.o"
+  mv "$work/libonc.a" "$archive"
 fi
-mkdir -p "$root/target/lib"
 shared=$root/target/lib/libonc.so
 # The archive is position independent. No symbol may be left open (-z defs), and none but onc_* be seen (onc.map).
 "${CC:-cc}" -shared -o "$shared.new" -Wl,-soname,libonc.so -Wl,-z,defs -Wl,-z,noexecstack \

@@ -1,11 +1,12 @@
 #!/usr/bin/env bash
 # Builds the library and tests it from C, Rust and Python; the last line says that all passed.
 #   bash bindings/test.sh
-# LIBRARY names an archive to use instead of the one that `rt staticlib exports` writes; CC the C compiler (cc); PYTHON the interpreter (python3).
+# LIBRARY names an archive with all the functions, to use instead of the one that bindings/build.sh makes; CC the C compiler (cc); PYTHON the
+# interpreter (python3).
 set -euo pipefail
 cd "$(dirname "${BASH_SOURCE[0]}")/.."
 bash bindings/build.sh
-archive=${LIBRARY:-target/staticlib/libexports.a}
+archive=${LIBRARY:-target/lib/libonc.a}
 archive=$(cd "$(dirname "$archive")" && pwd)/$(basename "$archive")
 shared=$PWD/target/lib/libonc.so
 work=$(mktemp -d)

@@ -1,7 +1,7 @@
 /*
- * The ONC grouping, the statistics, the check of a book in whole millionths and the draws of a round: what the static library of the crate
- * `exports` has for C and C++. `rt staticlib exports` writes it to target/staticlib/libexports.a. crates/exports/src/lib.rt has the contract
- * of each function; all are proved.
+ * The ONC grouping, the statistics, the check of a book in whole millionths and the draws of a round: what the crates `exports` (the grouping)
+ * and `statistics_exports` (the others) have for C and C++. `bash bindings/build.sh` makes target/lib/libonc.a of their two static libraries.
+ * The src/lib.rt of each has the contracts of its functions; all are proved.
  *
  * For every call:
  * - It may be called with any values: what is wrong is refused by a number (onc_number below).

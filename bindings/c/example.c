@@ -1,6 +1,6 @@
 /* Groups four names in two pairs, 0.875 within a pair and 0.125 across, and prints what the program `grouping` prints.
    After `bash bindings/build.sh`, from the repository's root:
-   cc -std=c99 -Wall -Wextra -Werror -Iinclude -o target/example bindings/c/example.c target/staticlib/libexports.a */
+   cc -std=c99 -Wall -Wextra -Werror -Iinclude -o target/example bindings/c/example.c target/lib/libonc.a */
 #include <inttypes.h>
 #include <stdio.h>
 #include <string.h>

@@ -13,14 +13,14 @@ fn main() {
     let library = match env::var_os("ONC_LIBRARY") {
         Some(named) => PathBuf::from(named),
         None => match env::var_os("CARGO_MANIFEST_DIR") {
-            Some(here) => PathBuf::from(here).join("../../target/staticlib/libexports.a"),
+            Some(here) => PathBuf::from(here).join("../../target/lib/libonc.a"),
             None => fail("build.rs is run by cargo"),
         },
     };
     let library = match library.canonicalize() {
         Ok(found) if found.is_file() => found,
         _ => fail(&format!(
-            "the static archive {} is not there: run `bash bindings/build.sh`, or set ONC_LIBRARY to an archive that `rt staticlib exports` wrote",
+            "the static archive {} is not there: run `bash bindings/build.sh`, or set ONC_LIBRARY to a libonc.a that it wrote",
             library.display()
         )),
     };

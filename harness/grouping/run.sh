@@ -13,8 +13,9 @@
 #   SOURCES=dir bash harness/grouping/run.sh texts [SEED] [TEXTS]
 #   SOURCES=dir bash harness/grouping/run.sh record-texts > crates/texts/stdin
 # SOURCES names the folder with the Rust's onc.rs; VENDOR a folder of vendored crates (harness/oracle/README.md).
-# WORK is where all is built (target/harness); LIBRARIES the archives to link instead of those that `rt staticlib` writes of `exports` and
-# `harness_exports`; PROGRAM the grouping program to run instead of the one that `rt check grouping` writes. `count` takes valgrind.
+# WORK is where all is built (target/harness); LIBRARIES the archives to link instead of those that `rt staticlib` writes of `exports`,
+# `statistics_exports` and `harness_exports`; PROGRAM the grouping program to run instead of the one that `rt check grouping` writes. `count`
+# takes valgrind.
 set -euo pipefail
 case ${1:-} in runs | statistics | stack | time | count | record | record-kinds | vectors | texts | record-texts) ;; *) sed -n '2,18s/^# //p' "$0" && exit 2 ;; esac
 cd "$(dirname "${BASH_SOURCE[0]}")/../.."
@@ -48,9 +49,11 @@ case $1 in
     ;;
 esac
 if [ -z "${LIBRARIES:-}" ]; then
-  rt staticlib exports >&2
-  rt staticlib harness_exports >&2
-  LIBRARIES="$PWD/target/staticlib/libexports.a $PWD/target/staticlib/libharness_exports.a"
+  LIBRARIES=
+  for crate in exports statistics_exports harness_exports; do
+    rt staticlib $crate >&2
+    LIBRARIES="$LIBRARIES $PWD/target/staticlib/lib$crate.a"
+  done
 fi
 export LIBRARIES
 build compare

@@ -10,7 +10,8 @@ use Rattle.lists.proofs.Tests.{impossible}
 use Rattle.refusals.specs.Table.{Refusal, refused}
 use Rattle.refusals.proofs.Laws.{accepted, when-none, unless-none}
 use Rattle.onc_answers.specs.declared.Onc.{Onc}
-use Rattle.onc_answers.specs.Answers.{numberOf, placeOf, groupsOf, readOf, answerOf, shapeOf}
+use Rattle.onc_answers.specs.Answers.{numberOf, placeOf, groupsOf, readOf, answerOf}
+use Rattle.onc_checks.specs.Checks.{shapeOf}
 use Rattle.onc_run.specs.Run.{Lists, Outcome}
 use Rattle.reports.proofs.Written.{places-are, refused-as}
 use Rattle.exports.specs.Grouping.{groupingReported}

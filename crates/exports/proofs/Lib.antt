@@ -1,3 +1,2 @@
--- Laws of what the calls for other languages give and leave.
+-- Laws of what the grouping called from C gives and leaves.
 pub mod Grouping
-pub mod Book

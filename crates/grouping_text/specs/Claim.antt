@@ -10,7 +10,7 @@ use Rattle.lists.specs.Lists.{listed}
 use Rattle.bits.specs.Bits.{doubleOf}
 use Rattle.partition.specs.Partition.{labelOf}
 use Rattle.partition.specs.Orders.{cut}
-use Rattle.onc_answers.specs.Answers.{listsFit}
+use Rattle.onc_checks.specs.Checks.{listsFit}
 use Rattle.onc_run.specs.Run.{Lists, Outcome}
 use Rattle.onc.specs.Onc.{groupOf}
 use Rattle.request_text.specs.Written.{requestText}

@@ -11,7 +11,7 @@ use Rattle.refusals.specs.Table.{Refusal}
 use Rattle.draws.specs.Stops.{stopNumber, stopPlace}
 use Rattle.partition.specs.Partition.{labelOf}
 use Rattle.rounds.specs.Round.{Run, done, ended}
-use Rattle.onc_answers.specs.Answers.{shapeOf}
+use Rattle.onc_checks.specs.Checks.{shapeOf}
 use Rattle.onc_run.specs.Run.{runOf}
 use Rattle.request_text.specs.Request.{Answer, Requested, requestOf}
 use Rattle.answer_text.specs.Answer.{groupedText, refusedText}

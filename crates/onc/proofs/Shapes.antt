@@ -11,7 +11,7 @@ use lib.Ieee.{Float}
 use Rattle.lists.proofs.Tests.{impossible, both, neither}
 use Rattle.refusals.specs.Table.{Refusal, none, refused, when, unless, refusal, workDoubles, workNumbers}
 use Rattle.refusals.proofs.Laws.{when-none, unless-none, accepted, fits-asked}
-use Rattle.onc_answers.specs.Answers.{listsFit, shapeOf}
+use Rattle.onc_checks.specs.Checks.{listsFit, shapeOf}
 use Rattle.onc_run.specs.Run.{Lists}
 use Rattle.onc.specs.Onc.{shape}
 use Rattle.onc.specs.Demands.{Within, Shaped, Limited, Cause, no-repeat, not-square, few-rows, many-rows, many-repeats, cell-count, list-length, AsLong}

@@ -22,7 +22,8 @@ use Rattle.base.specs.Base.{baseOf}
 use Rattle.merging.specs.Merging.{weakItems}
 use Rattle.rows.specs.Rows.{rowsOf}
 use Rattle.rounds.specs.Round.{Run, done, ended, needOf, totalOf}
-use Rattle.onc_answers.specs.Answers.{Answer, listsFit, refusing}
+use Rattle.onc_answers.specs.Answers.{Answer, refusing}
+use Rattle.onc_checks.specs.Checks.{listsFit}
 use Rattle.onc_run.specs.Run.{Lists, Outcome, Limits, runOf, ran}
 use Rattle.onc.specs.Onc.{groupOf}
 

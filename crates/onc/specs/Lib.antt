@@ -1,12 +1,14 @@
 -- The grouping of a book. Read Demands.antt first: the three demands, in their own words, over `groupOf`. Then the definition, from the top:
 --   Onc.antt                             groupOf: the refusals before a run, or what the run gives
 --   onc_run/specs/Run.antt               runOf: the run, its answer, and what each list holds afterwards
---   onc_answers/specs/Answers.antt       what an answer says, and the refusals before the run
+--   onc_answers/specs/Answers.antt       what an answer says
+--   onc_checks/specs/Checks.antt         the refusals before the run
 --   rounds/specs/Round.antt              roundOf: a round, its re-clustering, the rounds that are left
 --   improve/specs/Improve.antt           betterOf: the weak groups clustered again (merging/specs/Merging.antt), and the choice (choice/specs/Choice.antt)
 --   quality/specs/Quality.antt           the t-stat of a group, and which are weak
 --   base/specs/Base.antt                 baseOf: the groups of the best candidate
---   candidates/specs/Candidates.antt     bestOf: every repeat, every number of groups, and which is kept (choice/specs/Replaces.antt); for the demands Ranges.antt (draws out of range) and Failed.antt
+--   candidates/specs/Candidates.antt     bestOf: every repeat, every number of groups, and which is kept (choice/specs/Replaces.antt); for the
+--                                        demands Ranges.antt (draws out of range) and Failed.antt
 --   partition/specs/Partition.antt       groups, labels, and what a partition is; Orders.antt: how it stands in two lists
 --   scoring/specs/Scoring.antt           the scores of a round's items; one item's in scores/specs/Scores.antt
 --   clustering/specs/Clustering.antt     kmeansOf: seeding/specs/Seeding.antt with trials/specs/Trials.antt (its draws out of range: Ranges.antt), then

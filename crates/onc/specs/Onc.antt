@@ -8,7 +8,8 @@ use lib.ListN.{length}
 use lib.Ieee.{Float}
 use Rattle.refusals.specs.Table.{Refusal}
 use Rattle.rounds.specs.Round.{Run}
-use Rattle.onc_answers.specs.Answers.{refusing, listsFit, shapeOf}
+use Rattle.onc_answers.specs.Answers.{refusing}
+use Rattle.onc_checks.specs.Checks.{listsFit, shapeOf}
 use Rattle.onc_run.specs.Run.{Lists, Outcome, runOf, ran}
 
 -- the refusals before the run

@@ -39,7 +39,7 @@ pub fn get_onc_clusters_with_draws(
           numbers = now (numbers .entry);
         }) ⌝ }
 {
-    let fits = onc_answers::lists_fit(
+    let fits = onc_checks::lists_fit(
         rows,
         order.len(),
         sizes.len(),
@@ -48,7 +48,7 @@ pub fn get_onc_clusters_with_draws(
         floats.len(),
         numbers.len(),
     );
-    let asked = onc_answers::check(repeat, rows, cols, book.len(), fits);
+    let asked = onc_checks::check(repeat, rows, cols, book.len(), fits);
     if onc_answers::number_of(asked) != 0 {
         return asked;
     }

@@ -1,8 +1,6 @@
--- What the grouping answers, as the table of refusals gives it, and the rows of the table that it checks before its run. Definitions only.
-use Prim.Native.Nat.{ℕ, _*_}
-use mathlib.Core.Bool.{Bool, _&&_}
-use lib.Dec.{eqb, ltb, leb}
-use Rattle.refusals.specs.Table.{Refusal, refused, when, unless, refusal, workDoubles, workNumbers}
+-- What the grouping answers, as the table of refusals gives it. Definitions only.
+use Prim.Native.Nat.{ℕ}
+use Rattle.refusals.specs.Table.{Refusal}
 use Rattle.draws.specs.Stops.{stopNumber, stopPlace}
 use Rattle.onc_answers.specs.declared.Onc.{Onc}
 use Rattle.onc_answers.specs.declared.Onc.the-variants.{Grouped, InvalidRepeat, InvalidCorrelationMatrix, TooLarge, CellCount, ListLength, Stopped}
@@ -55,17 +53,3 @@ answerOf a = record { refused = record { number = numberOf a; place = placeOf a 
 
 abbrev pub refusing : Refusal → Answer
 refusing q = record { refused = q; groups = 0; read = 0 }
-
--- outputs of exactly the lengths for n names, and lists to work in of at least theirs
-abbrev pub listsFit : ℕ → (order sizes scores ordered floats numbers : ℕ) → Bool
-listsFit n order sizes scores ordered floats numbers =
-    eqb order n && (eqb sizes n && (eqb scores n && (eqb ordered (n * n) && (leb (workDoubles n) floats && leb (workNumbers n) numbers))))
-
--- the rows of the table that keep every list: 1, 2, 4, 5, 6
-unfoldable pub shapeOf : (repeat rows cols cells : ℕ) → Bool → Refusal
-shapeOf repeat rows cols cells fits =
-    when (eqb repeat 0) (refused 1)
-    (unless (eqb rows cols) (refused 2)
-    (when (ltb rows 2) (refused 2)
-    (when (ltb 64 repeat) (refused 4)
-    (refusal cells rows rows fits 0 0))))

@@ -5,7 +5,8 @@ ghost use mathlib.Core.List.{[], _∷_};
 ghost use lib.Dec.{eqb};
 ghost use lib.ListN.{length};
 ghost use Rattle.stats.specs.Average.{averagedOf};
-ghost use Rattle.onc_answers.specs.Answers.{numberOf, placeOf, groupsOf, readOf, shapeOf};
+ghost use Rattle.onc_answers.specs.Answers.{numberOf, placeOf, groupsOf, readOf};
+ghost use Rattle.onc_checks.specs.Checks.{shapeOf};
 ghost use Rattle.reports.specs.Average.{numberWithout, averageReported};
 ghost use Rattle.reports.specs.Book.{bookShape};
 use onc_answers::Onc;
@@ -24,7 +25,7 @@ pub fn grouping_refused(
     if places == 4 {
         return 0;
     }
-    onc_answers::number_of(onc_answers::check(repeat, rows, cols, cells, false))
+    onc_answers::number_of(onc_checks::check(repeat, rows, cols, cells, false))
 }
 
 // The number, the place, the groups and the draws read, in a list of four; the number.

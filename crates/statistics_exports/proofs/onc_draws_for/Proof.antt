@@ -1,8 +1,8 @@
 use borrow.Author.Tests.{le-ltb, lt-ltb}
 use borrow.Author.Needs.{needs}
-use Rattle.exports.specs.Draws.{drawsFor}
-use Rattle.exports.proofs.onc_draws_for.Statement.{statement}
-use Rattle.exports.proofs.onc_draws_for.Tie as tie
+use Rattle.statistics_exports.specs.Draws.{drawsFor}
+use Rattle.statistics_exports.proofs.onc_draws_for.Statement.{statement}
+use Rattle.statistics_exports.proofs.onc_draws_for.Tie as tie
 
 returns : tie.Need-returns
 unfolding drawsFor

@@ -2,10 +2,10 @@ use Prim.Native.Nat.{_*_}
 use native.Mathlib.Omega.{arith}
 use native.Mathlib.Nat.{mul-le-mul}
 use borrow.Author.Tests.{eq-eqb, le-ltb, lt-ltb, ne-eqb, not-false, not-true}
-use Rattle.onc_answers.specs.Answers.{shapeOf}
+use Rattle.onc_checks.specs.Checks.{shapeOf}
 use Rattle.refusals.specs.Table.{refusal, unless, when}
-use Rattle.onc_answers.proofs.check.Statement.{statement}
-use Rattle.onc_answers.proofs.check.Tie as tie
+use Rattle.onc_checks.proofs.check.Statement.{statement}
+use Rattle.onc_checks.proofs.check.Tie as tie
 
 returns : tie.Need-returns
 unfolding shapeOf refusal when unless

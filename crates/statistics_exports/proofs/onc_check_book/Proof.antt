@@ -1,7 +1,7 @@
 use borrow.Author.Needs.{needs}
-use Rattle.exports.proofs.Book.{book-refused-as, book-reported, two-places}
-use Rattle.exports.proofs.onc_check_book.Statement.{statement}
-use Rattle.exports.proofs.onc_check_book.Tie as tie
+use Rattle.statistics_exports.proofs.Book.{book-refused-as, book-reported, two-places}
+use Rattle.statistics_exports.proofs.onc_check_book.Statement.{statement}
+use Rattle.statistics_exports.proofs.onc_check_book.Tie as tie
 
 book-refused-requires : tie.Need-book-refused-requires
 book-refused-requires c κs = tt

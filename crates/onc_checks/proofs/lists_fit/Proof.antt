@@ -1,6 +1,6 @@
 use borrow.Author.Tests.{eq-eqb, ne-eqb, not-false, not-true}
-use Rattle.onc_answers.proofs.lists_fit.Statement.{statement}
-use Rattle.onc_answers.proofs.lists_fit.Tie as tie
+use Rattle.onc_checks.proofs.lists_fit.Statement.{statement}
+use Rattle.onc_checks.proofs.lists_fit.Tie as tie
 
 returns : tie.Need-returns
 returns c = λ h. rw (ne-eqb (c .before .args .order) (c .before .args .n) (c .if1 .taken))

@@ -2,8 +2,8 @@ use mathlib.Core.Path.{_∙_, ap}
 use borrow.Author.Needs.{needs}
 use Rattle.stats.specs.Average.{Averaged}
 use Rattle.reports.specs.Average.{averageReported}
-use Rattle.exports.proofs.onc_variance.Statement.{statement}
-use Rattle.exports.proofs.onc_variance.Tie as tie
+use Rattle.statistics_exports.proofs.onc_variance.Statement.{statement}
+use Rattle.statistics_exports.proofs.onc_variance.Tie as tie
 
 variance-requires : tie.Need-variance-requires
 variance-requires c κs = tt

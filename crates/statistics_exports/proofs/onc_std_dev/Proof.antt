@@ -2,8 +2,8 @@ use mathlib.Core.Path.{_∙_, ap}
 use borrow.Author.Needs.{needs}
 use Rattle.stats.specs.Average.{Averaged}
 use Rattle.reports.specs.Average.{averageReported}
-use Rattle.exports.proofs.onc_std_dev.Statement.{statement}
-use Rattle.exports.proofs.onc_std_dev.Tie as tie
+use Rattle.statistics_exports.proofs.onc_std_dev.Statement.{statement}
+use Rattle.statistics_exports.proofs.onc_std_dev.Tie as tie
 
 std-dev-requires : tie.Need-std-dev-requires
 std-dev-requires c κs = tt

@@ -1,0 +1,2 @@
+-- The checks of the grouping before its run.
+pub mod Checks

@@ -1,0 +1,2 @@
+-- Laws of what the check of a book gives and leaves.
+pub mod Book
