@@ -4,8 +4,8 @@ use native.Mathlib.Omega.{arith}
 use lib.ListN.{length}
 use lib.Seq.{length-take-le}
 use borrow.Author.Needs.{needs}
-use Rattle.kmeans.proofs.centres_alone.Statement.{statement}
-use Rattle.kmeans.proofs.centres_alone.Tie as tie
+use Rattle.kmeans_centres.proofs.centres_alone.Statement.{statement}
+use Rattle.kmeans_centres.proofs.centres_alone.Tie as tie
 
 prepare-requires : tie.Need-prepare-requires
 prepare-requires c κs = (c .before .before .before .before .before .pre .0 .two, c .before .before .before .before .before .pre .0 .few, c .before .before .before .before .before .pre .0 .square, c .before .before .before .before .before .pre .3)

@@ -8,11 +8,12 @@ use borrow.Author.Needs.{needs}
 use Rattle.kmeans_answers.specs.Answers.{numberOf}
 use Rattle.lists.specs.Lists.{firstFrom}
 use Rattle.kmeans_answers.proofs.Laws.{not-started, was-run}
-use Rattle.kmeans.specs.Leaves.{lloydLeaf}
-use Rattle.kmeans.proofs.Laws.{areas-back, areas-length, asked-is, centres-are, lists-sized, none-refused, points-are, ran, starts, wiped-back}
+use Rattle.kmeans_passes.specs.Leaves.{lloydLeaf}
+use Rattle.kmeans_answers.proofs.Runs.{areas-back, areas-length, asked-is, lists-sized, none-refused, points-are, ran, starts, wiped-back}
+use Rattle.kmeans_passes.proofs.Laws.{centres-are}
 use Rattle.kmeans_answers.specs.declared.Kmeans.the-variants.{Done}
-use Rattle.kmeans.proofs.lloyd.Statement.{statement}
-use Rattle.kmeans.proofs.lloyd.Tie as tie
+use Rattle.kmeans_passes.proofs.lloyd.Statement.{statement}
+use Rattle.kmeans_passes.proofs.lloyd.Tie as tie
 
 lists-fit-requires : tie.Need-lists-fit-requires
 lists-fit-requires c κs = search needs

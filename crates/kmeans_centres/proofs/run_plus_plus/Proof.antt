@@ -7,9 +7,9 @@ use lib.Seq.{length-take-le}
 use borrow.Author.Tests.{ltb-false}
 use borrow.Author.Needs.{needs}
 use Rattle.draws.specs.Counts.{seedingOf}
-use Rattle.kmeans.proofs.Laws.{areas-back, enough-draws, too-few}
-use Rattle.kmeans.proofs.run_plus_plus.Statement.{statement}
-use Rattle.kmeans.proofs.run_plus_plus.Tie as tie
+use Rattle.kmeans_answers.proofs.Runs.{areas-back, enough-draws, too-few}
+use Rattle.kmeans_centres.proofs.run_plus_plus.Statement.{statement}
+use Rattle.kmeans_centres.proofs.run_plus_plus.Tie as tie
 
 too-few-requires : tie.Need-too-few-requires
 too-few-requires c κs = (omega (arith, c .before .before .before .before .pre .1), omega (arith, c .before .before .before .before .pre .2, c .before .before .before .before .pre .0 .few))

@@ -4,9 +4,9 @@ use lib.ListN.{length}
 use borrow.Author.Needs.{needs}
 use Rattle.columns.specs.Pair.{squaredAt}
 use Rattle.columns.specs.Columns.{pointsAt}
-use Rattle.kmeans.proofs.Laws.{centres-done, centres-stopped}
-use Rattle.kmeans.proofs.centres_apart.Statement.{statement}
-use Rattle.kmeans.proofs.centres_apart.Tie as tie
+use Rattle.kmeans_centres.proofs.Laws.{centres-done, centres-stopped}
+use Rattle.kmeans_centres.proofs.centres_apart.Statement.{statement}
+use Rattle.kmeans_centres.proofs.centres_apart.Tie as tie
 
 seed-in-requires : tie.Need-seed-in-requires
 seed-in-requires c κs = (c .before .before .before .before .before .before .before .pre .0, rw (c .before .before .before .before .before .before .before .pre .2) (c .before .before .before .before .before .before .before .pre .1), c .before .before .before .before .before .before .before .pre .3)

@@ -1,6 +1,6 @@
 use borrow.Author.Needs.{needs}
-use Rattle.kmeans.proofs.lloyd_alone.Statement.{statement}
-use Rattle.kmeans.proofs.lloyd_alone.Tie as tie
+use Rattle.kmeans_passes.proofs.lloyd_alone.Statement.{statement}
+use Rattle.kmeans_passes.proofs.lloyd_alone.Tie as tie
 
 prepare-requires : tie.Need-prepare-requires
 prepare-requires c κs = (c .before .before .before .before .before .pre .0 .two, c .before .before .before .before .before .pre .0 .few, c .before .before .before .before .before .pre .0 .square, c .before .before .before .before .before .pre .3)

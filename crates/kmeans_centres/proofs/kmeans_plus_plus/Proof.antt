@@ -3,10 +3,10 @@ use lib.ListN.{length}
 use borrow.Author.Needs.{needs}
 use Rattle.kmeans_answers.specs.Answers.{numberOf}
 use Rattle.kmeans_answers.proofs.Laws.{not-started, was-run}
-use Rattle.kmeans.specs.Leaves.{plusPlusLeaf}
-use Rattle.kmeans.proofs.Laws.{asked-is, lists-sized, none-refused, points-are, starts, wiped-back}
-use Rattle.kmeans.proofs.kmeans_plus_plus.Statement.{statement}
-use Rattle.kmeans.proofs.kmeans_plus_plus.Tie as tie
+use Rattle.kmeans_centres.specs.Leaves.{plusPlusLeaf}
+use Rattle.kmeans_answers.proofs.Runs.{asked-is, lists-sized, none-refused, points-are, starts, wiped-back}
+use Rattle.kmeans_centres.proofs.kmeans_plus_plus.Statement.{statement}
+use Rattle.kmeans_centres.proofs.kmeans_plus_plus.Tie as tie
 
 lists-fit-requires : tie.Need-lists-fit-requires
 lists-fit-requires c κs = search needs
