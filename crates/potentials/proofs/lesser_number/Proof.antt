@@ -2,8 +2,8 @@ use mathlib.Core.Path.{_∙_, _≡_, sym}
 use mathlib.Core.Bool.{false, true}
 use lib.Ieee.{isNan}
 use Rattle.lists.proofs.Floats.{ne-self}
-use Rattle.trials.proofs.lesser_number.Statement.{statement}
-use Rattle.trials.proofs.lesser_number.Tie as tie
+use Rattle.potentials.proofs.lesser_number.Statement.{statement}
+use Rattle.potentials.proofs.lesser_number.Tie as tie
 
 returns : tie.Need-returns
 returns c = rw (c .if1 .taken)

@@ -3,14 +3,14 @@ use mathlib.Core.Path.{_∙_, _≡_, ap, refl}
 use native.Mathlib.Omega.{arith}
 use lib.ListN.{length, length-set}
 use lib.Ieee.{nan, ofBits}
-use Rattle.trials.specs.Trials.{running}
+use Rattle.potentials.specs.Potentials.{running}
 use Rattle.lists.specs.Sums.{sumTo}
 use Rattle.lists.specs.Lists.{cells}
 use Rattle.lists.proofs.Sums.{sum-more}
 use Rattle.lists.proofs.Listed.{writes, writes-done, writes-one}
-use Rattle.trials.proofs.Picks.{running-more}
-use Rattle.trials.proofs.sum_weights.Statement.{statement}
-use Rattle.trials.proofs.sum_weights.Tie as tie
+use Rattle.potentials.proofs.Picks.{running-more}
+use Rattle.potentials.proofs.sum_weights.Statement.{statement}
+use Rattle.potentials.proofs.sum_weights.Tie as tie
 
 abbrev Inv-loop : tie.InvT-loop
 Inv-loop weights sums₀ m sum₀ i₀ sums sum i = (m ≡ length weights) × (i ≤ m) × (length sums ≡ m) × (sum ≡ sumTo (cells weights) i) × (sums ≡ writes (running (cells weights)) i sums₀)

@@ -6,8 +6,8 @@ use lib.Ieee.{add, binary64, ofBits}
 use Rattle.lists.specs.Sums.{lesser, sumTo}
 use Rattle.lists.specs.Lists.{cells}
 use Rattle.lists.proofs.Sums.{sum-more}
-use Rattle.trials.proofs.two_least.Statement.{statement}
-use Rattle.trials.proofs.two_least.Tie as tie
+use Rattle.potentials.proofs.two_least.Statement.{statement}
+use Rattle.potentials.proofs.two_least.Tie as tie
 
 abbrev Inv-loop : tie.InvT-loop
 Inv-loop weights a b m first₀ second₀ i₀ first second i = (m ≡ length weights) × (i ≤ m) × (first ≡ sumTo (λ k. lesser (cells a k) (cells weights k)) i) × (second ≡ sumTo (λ k. lesser (cells b k) (cells weights k)) i)

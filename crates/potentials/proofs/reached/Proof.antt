@@ -5,9 +5,9 @@ use lib.ListN.{length}
 use Rattle.lists.specs.Lists.{cells, firstTo}
 use Rattle.draws.proofs.Table.{at}
 use Rattle.lists.proofs.First.{first-more}
-use Rattle.trials.proofs.Picks.{over, reached-found, reached-none}
-use Rattle.trials.proofs.reached.Statement.{statement}
-use Rattle.trials.proofs.reached.Tie as tie
+use Rattle.potentials.proofs.Picks.{over, reached-found, reached-none}
+use Rattle.potentials.proofs.reached.Statement.{statement}
+use Rattle.potentials.proofs.reached.Tie as tie
 
 abbrev Inv-loop : tie.InvT-loop
 Inv-loop sums x m i₀ i = (m ≡ length sums) × (i ≤ m) × (firstTo (over (cells sums) x) i ≡ i)

@@ -18,7 +18,7 @@ use Rattle.draws.specs.Draws.{shares, share}
 use Rattle.lists.proofs.Tests.{impossible}
 use Rattle.lists.proofs.Floats.{ne-self}
 use Rattle.lists.proofs.Sums.{sum-same}
-use Rattle.trials.specs.Trials.{running, firstOver, limit, pickBy, pick, lesserNumber, RunningSums}
+use Rattle.potentials.specs.Potentials.{running, firstOver, limit, pickBy, pick, lesserNumber, RunningSums}
 
 module _ (f : ℕ → Float) (x : Float) where
   -- f exceeds x at place i

@@ -6,9 +6,9 @@ use lib.Ieee.{add, binary64, ofBits}
 use Rattle.lists.specs.Lists.{cells}
 use Rattle.lists.specs.Sums.{sumTo}
 use Rattle.lists.proofs.Sums.{sum-more}
-use Rattle.trials.specs.Trials.{lesserNumber}
-use Rattle.trials.proofs.potential.Statement.{statement}
-use Rattle.trials.proofs.potential.Tie as tie
+use Rattle.potentials.specs.Potentials.{lesserNumber}
+use Rattle.potentials.proofs.potential.Statement.{statement}
+use Rattle.potentials.proofs.potential.Tie as tie
 
 abbrev Inv-loop : tie.InvT-loop
 Inv-loop weights squares m sum₀ i₀ sum i = (m ≡ length weights) × (i ≤ m) × (sum ≡ sumTo (λ k. lesserNumber (cells weights k) (cells squares k)) i)

@@ -1,8 +1,8 @@
 use mathlib.Core.Path.{_∙_}
 use lib.Ieee.{ofBits}
-use Rattle.trials.specs.Trials.{pickBy}
-use Rattle.trials.proofs.pick.Statement.{statement}
-use Rattle.trials.proofs.pick.Tie as tie
+use Rattle.potentials.specs.Potentials.{pickBy}
+use Rattle.potentials.proofs.pick.Statement.{statement}
+use Rattle.potentials.proofs.pick.Tie as tie
 
 share-of-requires : tie.Need-share-of-requires
 share-of-requires c κs = tt

@@ -1,6 +1,6 @@
 use lib.Ieee.{ofBits}
-use Rattle.trials.proofs.limit.Statement.{statement}
-use Rattle.trials.proofs.limit.Tie as tie
+use Rattle.potentials.proofs.limit.Statement.{statement}
+use Rattle.potentials.proofs.limit.Tie as tie
 
 returns : tie.Need-returns
 unfolding ofBits

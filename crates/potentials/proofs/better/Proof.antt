@@ -1,8 +1,8 @@
 use mathlib.Core.Path.{_≡_, refl}
 use mathlib.Core.Bool.{false, true}
 use lib.Ieee.{lt}
-use Rattle.trials.proofs.better.Statement.{statement}
-use Rattle.trials.proofs.better.Tie as tie
+use Rattle.potentials.proofs.better.Statement.{statement}
+use Rattle.potentials.proofs.better.Tie as tie
 
 returns : tie.Need-returns
 returns c =

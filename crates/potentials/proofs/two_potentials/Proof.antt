@@ -1,8 +1,8 @@
 use lib.ListN.{length}
 use Rattle.lists.specs.Lists.{cells}
-use Rattle.trials.proofs.Picks.{least-sum}
-use Rattle.trials.proofs.two_potentials.Statement.{statement}
-use Rattle.trials.proofs.two_potentials.Tie as tie
+use Rattle.potentials.proofs.Picks.{least-sum}
+use Rattle.potentials.proofs.two_potentials.Statement.{statement}
+use Rattle.potentials.proofs.two_potentials.Tie as tie
 
 potential-requires : tie.Need-potential-requires
 potential-requires c κs = c .before .before .before .before .pre .0
