@@ -7,7 +7,7 @@ use lib.ListN.{length, drop}
 use lib.Ieee.{Float}
 use Rattle.draws.specs.Counts.{seedingOf}
 use Rattle.draws.specs.declared.Stop.{Stop}
-use Rattle.lloyd.specs.declared.Ended.{Ended}
+use Rattle.passes.specs.declared.Ended.{Ended}
 use Rattle.clustering.specs.Clustering.{kmeansOf}
 use Rattle.clustering.specs.Steps.{ClusteredBy}
 use Rattle.clustering.specs.declared.Clustered as clustered

@@ -9,7 +9,7 @@ ghost use Rattle.columns.specs.Columns.{pointsAt};
 ghost use Rattle.refusals.specs.Table.{workDoubles};
 ghost use Rattle.draws.specs.Counts.{seedingOf};
 ghost use Rattle.seeding.specs.Seeding.{seeding, MaySeed};
-ghost use Rattle.lloyd.specs.Area.{Held};
+ghost use Rattle.means.specs.Area.{Held};
 ghost use Rattle.kmeans_answers.specs.Answers.{refusalOf, readOf};
 ghost use Rattle.kmeans_answers.specs.Leaf.{Points, tookOf, ranOf};
 ghost use Rattle.kmeans_centres.specs.Leaves.{plusPlusLeaf};

@@ -6,7 +6,7 @@ use lib.Ieee.{Float}
 use Rattle.lists.specs.Lists as list
 use Rattle.lists.specs.Lists.{cellAt, firstFrom}
 use Rattle.refusals.specs.Table.{none}
-use Rattle.lloyd.specs.Passes.{lloydLabels}
+use Rattle.passes.specs.Passes.{lloydLabels}
 use Rattle.kmeans_answers.specs.Leaf.{Leaf, leafRefusal, listsFit, leafOf}
 
 -- the labels of the items, from the items `centres` as first centroids; no draws are read
