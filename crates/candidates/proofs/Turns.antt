@@ -16,7 +16,7 @@ use Rattle.draws.specs.Draws.{Drawn, drawn, refused, andThen}
 use Rattle.draws.specs.declared.Stop.{Stop}
 use Rattle.draws.specs.declared.Stop.the-variants.{DrawOutOfRange}
 use Rattle.draws.proofs.Taken.{Ends, Among}
-use Rattle.lloyd.specs.declared.Ended.{Ended}
+use Rattle.passes.specs.declared.Ended.{Ended}
 use Rattle.clustering.specs.Clustering.{Grouped, kmeansOf}
 use Rattle.clustering.specs.Steps.{ClusteredBy}
 use Rattle.clustering.specs.declared.Clustered.the-variants as clustered

@@ -12,7 +12,7 @@ use Rattle.columns.specs.Pair.{squaredAt}
 use Rattle.columns.specs.Columns.{pointsAt}
 use Rattle.pairs.specs.Regions.{Area, Turned, Summed}
 use Rattle.seeding.specs.Seeding.{MaySeed, Ready}
-use Rattle.lloyd.specs.Area.{Held}
+use Rattle.means.specs.Area.{Held}
 
 -- four areas and a fifth
 module _ (m : ℕ) (front back : List Float) (t : Turned front m) (s : Summed front m) (l : length back ≡ m * m) where

@@ -23,12 +23,12 @@ use Rattle.seeding.specs.Seeding.{seeding, SeededBy, Below}
 use Rattle.seeding.specs.declared.Seeded as seeded
 use Rattle.seeding.proofs.Seeds.{seeding-took, seeding-behind, seed-done, seed-stopped}
 use Rattle.seeding.proofs.Same.{seeding-same}
-use Rattle.lloyd.specs.declared.Ended.{Ended}
-use Rattle.lloyd.specs.Passes.{lloydLabels, lloydEnded}
-use Rattle.lloyd.specs.Area.{Held, Centres}
-use Rattle.lloyd.specs.Area as area
-use Rattle.lloyd.proofs.Same.{lloyd-same}
-use Rattle.lloyd.proofs.Below.{labels-below, labels-length}
+use Rattle.passes.specs.declared.Ended.{Ended}
+use Rattle.passes.specs.Passes.{lloydLabels, lloydEnded}
+use Rattle.means.specs.Area.{Held, Centres}
+use Rattle.lloyd.specs.Result.{LloydResult}
+use Rattle.passes.proofs.Same.{lloyd-same}
+use Rattle.passes.proofs.Below.{labels-below, labels-length}
 use Rattle.clustering.specs.Clustering.{Grouped, kmeansOf}
 use Rattle.clustering.specs.Steps.{ClusteredBy}
 use Rattle.clustering.specs.declared.Clustered.the-variants.{Done, Stopped}
@@ -51,7 +51,7 @@ module _ (x : ℕ → ℕ → Float) (m k : ℕ) (z : 0 < m) (one-of : 0 < k) (a
         let v = seed-done (squaredAt x m) m k z one-of at ds next cs s in
         record { groups = rw (v .1) h; items = v .2 }
 
-    pub cluster-done : (labels : List ℕ) {r : Ended} {labels′ : List ℕ} → area.LloydResult x m cs r labels′ → ClusteredBy (kmeansOf x m k at ds) next labels (Done n r) labels′
+    pub cluster-done : (labels : List ℕ) {r : Ended} {labels′ : List ℕ} → LloydResult x m cs r labels′ → ClusteredBy (kmeansOf x m k at ds) next labels (Done n r) labels′
     unfolding kmeansOf
     cluster-done labels {r} {labels′} c =
         let v = seed-done (squaredAt x m) m k z one-of at ds next cs s in

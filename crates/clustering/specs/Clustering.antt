@@ -6,8 +6,8 @@ use Rattle.lists.specs.Lists.{numbers}
 use Rattle.draws.specs.Draws.{Drawn, drawn, andThen}
 use Rattle.columns.specs.Pair.{squaredAt}
 use Rattle.seeding.specs.Seeding.{seeding}
-use Rattle.lloyd.specs.declared.Ended.{Ended}
-use Rattle.lloyd.specs.Passes.{lloydLabels, lloydEnded}
+use Rattle.passes.specs.declared.Ended.{Ended}
+use Rattle.passes.specs.Passes.{lloydLabels, lloydEnded}
 
 -- the label of each item, and whether the passes converged or met the limit
 pub record Grouped : Type 0 where

@@ -6,11 +6,11 @@ ghost use Rattle.columns.specs.Pair.{squaredAt};
 ghost use Rattle.columns.specs.Columns.{pointsAt};
 ghost use Rattle.draws.specs.Counts.{seedingOf};
 ghost use Rattle.seeding.specs.Seeding.{seeding, MaySeed, SeededBy};
-ghost use Rattle.lloyd.specs.Area.{Held};
+ghost use Rattle.means.specs.Area.{Held};
 ghost use Rattle.clustering.specs.Clustering.{kmeansOf};
 ghost use Rattle.clustering.specs.Steps.{ClusteredBy};
 use draws::Stop;
-use lloyd::Ended;
+use passes::Ended;
 use seeding::Seeded;
 
 // The place of the next draw, and whether the passes converged; or what ends the run.

@@ -8,7 +8,7 @@ use Rattle.draws.specs.declared.Stop.{Stop}
 use Rattle.seeding.specs.declared.Seeded as seeded
 use Rattle.seeding.specs.declared.Seeded.{Seeded}
 use Rattle.seeding.specs.Seeding.{SeededBy, answerOf}
-use Rattle.lloyd.specs.declared.Ended.{Ended}
+use Rattle.passes.specs.declared.Ended.{Ended}
 use Rattle.clustering.specs.Clustering.{kmeansOf}
 use Rattle.clustering.specs.Steps.{ClusteredBy}
 use Rattle.clustering.specs.declared.Clustered.the-variants.{Done, Stopped}

@@ -9,7 +9,9 @@ ghost use lib.ListN.{length, take, drop};
 ghost use Rattle.sqrt.specs.Root.{root};
 ghost use Rattle.refusals.specs.Table.{refusal};
 ghost use Rattle.kmeans_answers.specs.Answers.{numberOf, placeOf, readOf};
-ghost use Rattle.kmeans.specs.Leaves.{plusPlusLeaf, lloydLeaf, labelsLeaf};
+ghost use Rattle.kmeans_centres.specs.Leaves.{plusPlusLeaf};
+ghost use Rattle.kmeans_passes.specs.Leaves.{lloydLeaf};
+ghost use Rattle.kmeans.specs.Leaves.{labelsLeaf};
 ghost use Rattle.lists.specs.Lists.{cells, numbers};
 ghost use Rattle.tstat.specs.Tstat.{tstatOf};
 ghost use Rattle.distance.specs.Distance.{Readable, distAt};
@@ -19,8 +21,8 @@ ghost use Rattle.pairs.specs.Pairs.{pairsArea};
 ghost use Rattle.draws.specs.Counts.{seedingOf};
 ghost use Rattle.seeding.specs.Seeding as seeds;
 ghost use Rattle.seeding.specs.Seeding.{seeding, MaySeed};
-ghost use Rattle.lloyd.specs.Passes.{lloydLabels};
-ghost use Rattle.lloyd.specs.Area.{Held, Centres};
+ghost use Rattle.passes.specs.Passes.{lloydLabels};
+ghost use Rattle.means.specs.Area.{Held, Centres};
 ghost use Rattle.clustering.specs.Clustering.{kmeansOf};
 ghost use Rattle.clustering.specs.Steps.{labelsAfter};
 ghost use Rattle.scoring.specs.Scoring.{scoresOf, Prepared};
@@ -84,7 +86,7 @@ pub extern "C" fn onc_kmeans_plus_plus(
     if refused != 0 {
         return refused;
     }
-    let a = kmeans::kmeans_plus_plus(points, n, k, draws, centres, floats, numbers);
+    let a = kmeans_centres::kmeans_plus_plus(points, n, k, draws, centres, floats, numbers);
     report(a, answer)
 }
 
@@ -105,7 +107,7 @@ pub extern "C" fn onc_lloyd(
     if refused != 0 {
         return refused;
     }
-    let a = kmeans::lloyd(points, n, centres, labels, floats, numbers);
+    let a = kmeans_passes::lloyd(points, n, centres, labels, floats, numbers);
     report(a, answer)
 }
 

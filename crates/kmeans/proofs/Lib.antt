@@ -1,2 +1,2 @@
--- Laws of the k-means leaves.
+-- Laws of the leaf of the labels.
 pub mod Laws

@@ -1,2 +1,2 @@
--- What the k-means leaves give and leave (Leaves.antt), by the definitions of clustering/specs/Clustering.antt.
+-- What the leaf of the labels gives and leaves (Leaves.antt), by the definitions of clustering/specs/Clustering.antt.
 pub mod Leaves

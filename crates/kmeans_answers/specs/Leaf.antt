@@ -1,5 +1,6 @@
 -- What a k-means leaf gives and leaves: refused before it starts, or started. Definitions only.
-use Prim.Native.Nat.{ℕ, _-_}
+use Prim.Native.Nat.{ℕ, _-_, _*_, _≤_}
+use mathlib.Core.Path.{_≡_}
 use mathlib.Core.Bool.{Bool, cond, _&&_, _||_}
 use mathlib.Core.List.{List}
 use lib.Dec.{eqb, ltb, leb}
@@ -8,6 +9,12 @@ use lib.Ieee.{Float}
 use Rattle.refusals.specs.Table as table
 use Rattle.refusals.specs.Table.{Refusal, none, when, orElse, refusal, workDoubles, wiped, workNumbers, wipedNumbers}
 use Rattle.draws.specs.Draws.{Drawn, drawn, refused}
+
+-- a matrix of points, of 2 to 256 items
+pub record Points (points : List Float) (n : ℕ) : Type 0 where
+  pub two : 2 ≤ n
+  pub few : n ≤ 256
+  pub square : length points ≡ n * n
 
 -- The first row of the table that keeps every list, for n items with `cells` cells and k groups: 2, 4, 5, 6 as every call has them,
 -- then 29, then 10 at the place `bad`, the first of `count` centres that is out of range, if it is below `count`.

@@ -1,6 +1,2 @@
--- Laws of the list that the passes work in, of the steps, and of the passes. Below.antt and Same.antt are for callers.
-pub mod Rows
-pub mod Turn
+-- Laws of the passes, from one to the next.
 pub mod Rounds
-pub mod Below
-pub mod Same

@@ -7,7 +7,7 @@ use native.Mathlib.Omega.{arith}
 use native.Mathlib.Numerals.{add-one}
 use lib.ListN.{length, replicate, take}
 use lib.Ieee.{Float, nan}
-use Rattle.lloyd.specs.Passes.{centroidsAt, distsOf, labelsAt, labelsOf, moved, nearest, convergesAt}
+use Rattle.passes.specs.Passes.{centroidsAt, distsOf, labelsAt, labelsOf, moved, nearest, convergesAt}
 use borrow.Author.Tests.{lt-ltb, ne-eqb}
 use Rattle.nearest.specs.Nearest.{nearestTo, sameLabels}
 use Rattle.centroids.specs.Groups.{distances, mean}
@@ -20,10 +20,11 @@ use Rattle.centroids.proofs.Members.{distances-agree, mean-same, size-same}
 use Rattle.lists.proofs.First.{first-found, first-more}
 use Rattle.lists.proofs.Sums.{fold-none}
 use Rattle.lists.proofs.Listed.{getD-listed, listed-const, listed-same}
-use Rattle.lloyd.specs.Area.{After, LloydResult, Kept, Table, tableRow}
-use Rattle.lloyd.proofs.Rows.{points-kept}
-use Rattle.lloyd.specs.declared.Ended.{Ended}
-use Rattle.lloyd.specs.declared.Ended.the-variants.{PassLimit, Converged}
+use Rattle.means.specs.Area.{Kept, Table, tableRow}
+use Rattle.lloyd.specs.Result.{After, LloydResult}
+use Rattle.means.proofs.Rows.{points-kept}
+use Rattle.passes.specs.declared.Ended.{Ended}
+use Rattle.passes.specs.declared.Ended.the-variants.{PassLimit, Converged}
 
 -- the nearest by the table are the nearest by the centroids
 module _ (x : ℕ → ℕ → Float) (area : List Float) (m k : ℕ) (centroid : ℕ → ℕ → Float) (w : Table area m k x centroid) where

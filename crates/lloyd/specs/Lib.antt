@@ -1,3 +1,2 @@
--- Lloyd's passes: Passes.antt is the definition, Area.antt says what is lent and what each step leaves.
-pub mod Passes
-pub mod Area
+-- Lloyd's passes: passes/specs/Passes.antt is the definition, means/specs/Area.antt says what is lent, and Result.antt what a call leaves.
+pub mod Result

@@ -11,8 +11,8 @@
 --                                        demands Ranges.antt (draws out of range) and Failed.antt
 --   partition/specs/Partition.antt       groups, labels, and what a partition is; Orders.antt: how it stands in two lists
 --   scoring/specs/Scoring.antt           the scores of a round's items; one item's in scores/specs/Scores.antt
---   clustering/specs/Clustering.antt     kmeansOf: seeding/specs/Seeding.antt with trials/specs/Trials.antt (its draws out of range: Ranges.antt), then
---                                        lloyd/specs/Passes.antt with nearest/specs/Nearest.antt and centroids/specs/Groups.antt
+--   clustering/specs/Clustering.antt     kmeansOf: seeding/specs/Seeding.antt (its draws out of range: Ranges.antt) with trials/specs/Trials.antt and
+--                                        potentials/specs/Potentials.antt, then passes/specs/Passes.antt with nearest/specs/Nearest.antt and centroids/specs/Groups.antt
 --   tstat/specs/Tstat.antt, stats/specs/Average.antt, columns/specs/Pair.antt, distance/specs/Distance.antt, sqrt/specs/Root.antt
 --   draws/specs                          the counts, the draws, and what can end a run; refusals/specs/Table.antt: the table
 --   lists/specs                          lists by their cells, matrices, sums

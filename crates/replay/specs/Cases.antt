@@ -7,7 +7,9 @@ use lib.ListN.{length, replicate}
 use lib.Ieee.{Float}
 use Rattle.refusals.specs.Table.{Refusal}
 use Rattle.kmeans_answers.specs.Leaf.{Leaf}
-use Rattle.kmeans.specs.Leaves.{plusPlusLeaf, lloydLeaf, labelsLeaf}
+use Rattle.kmeans_centres.specs.Leaves.{plusPlusLeaf}
+use Rattle.kmeans_passes.specs.Leaves.{lloydLeaf}
+use Rattle.kmeans.specs.Leaves.{labelsLeaf}
 use Rattle.words.specs.Words.{wordFrom, sizeFrom, doublesFrom, wordsFrom, sameNumbers, seven, namesWiped, leftLists, countsBy}
 use Rattle.words.specs.declared.Counts.{Counts}
 use Rattle.replay.specs.declared.Case.{Case}

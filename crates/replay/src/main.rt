@@ -130,10 +130,10 @@ fn call(
         ≡ leafOf c (now (points .entry)) (now (draws .entry)) (now (centres .entry)) (now (out .entry)) (now (floats .entry)) (now (numbers .entry)) ⌝ }
 {
     if c.leaf == 1 {
-        return kmeans::kmeans_plus_plus(points, c.n, c.k, draws, out, floats, numbers);
+        return kmeans_centres::kmeans_plus_plus(points, c.n, c.k, draws, out, floats, numbers);
     }
     if c.leaf == 2 {
-        return kmeans::lloyd(points, c.n, centres, out, floats, numbers);
+        return kmeans_passes::lloyd(points, c.n, centres, out, floats, numbers);
     }
     kmeans::kmeans_labels(points, c.n, c.k, draws, out, floats, numbers)
 }

@@ -20,7 +20,7 @@ use Rattle.scores.specs.Groups.{distance, Shape, scoresAcross}
 use Rattle.scores.proofs.Least.{score-same, score-labels}
 use Rattle.scores.proofs.Renumbered.{score-renumbered}
 use Rattle.pairs.specs.Pairs.{pairsArea}
-use Rattle.lloyd.proofs.Rows.{points-kept, held-kept}
+use Rattle.means.proofs.Rows.{points-kept, held-kept}
 use Rattle.clustering.proofs.Laws.{pairs-points, pairs-held, fourth-is}
 use Rattle.scoring.specs.Scoring.{scoresOf, Prepared}
 

@@ -7,7 +7,7 @@ use Rattle.lists.specs.Lists.{listed, part, grid}
 use Rattle.columns.specs.Pair.{pairAt}
 use Rattle.columns.specs.Columns.{pointsAt}
 use Rattle.scores.specs.Scores.{silhouette}
-use Rattle.lloyd.specs.Area.{Held}
+use Rattle.means.specs.Area.{Held}
 
 -- the silhouette of each item, by the pair distances of the items
 unfoldable pub scoresOf : (ℕ → ℕ → Float) → ℕ → (ℕ → ℕ) → List Float

@@ -14,8 +14,9 @@ use Rattle.draws.specs.Counts.{trialsOf, seedingOf}
 use Rattle.draws.specs.Draws.{drawn, one}
 use Rattle.draws.proofs.Counting.{trials-some}
 use Rattle.draws.proofs.Bad.{Reads, Above, reads-map, then-reads, takes-bad}
-use Rattle.trials.specs.declared.Trial.{Trial}
-use Rattle.trials.specs.Trials.{lesserNumber, with, limit, nextOf}
+use Rattle.potentials.specs.declared.Trial.{Trial}
+use Rattle.potentials.specs.Potentials.{lesserNumber, with, limit}
+use Rattle.trials.specs.Trials.{nextOf}
 use Rattle.trials.proofs.Bad.{next-bad}
 use Rattle.seeding.specs.Seeding.{centresOf, firstCentres, seeding}
 use Rattle.seeding.specs.Ranges.{weightTo, OutOfRange, first, trial}

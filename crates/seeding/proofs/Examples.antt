@@ -7,7 +7,8 @@ use lib.Ieee.{Float, nan, fin, add, mul, div, ofInt, lt, isNan}
 use Rattle.lists.specs.Sums.{sumTo, zero64}
 use Rattle.lists.specs.Lists.{listed, firstTo}
 use Rattle.draws.specs.Draws.{drawn, refused, takes}
-use Rattle.trials.specs.Trials.{firstOver, pickBy, bestTrial, table}
+use Rattle.potentials.specs.Potentials.{firstOver, pickBy}
+use Rattle.trials.specs.Trials.{bestTrial, table}
 use Rattle.seeding.specs.Seeding.{seeding, centresOf}
 
 one64 : Float

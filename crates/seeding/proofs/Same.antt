@@ -11,7 +11,8 @@ use Rattle.draws.specs.Counts.{trialsOf}
 use Rattle.draws.specs.Draws.{one}
 use Rattle.draws.proofs.Counting.{trials-some}
 use Rattle.draws.proofs.Taken.{one-took, then-same}
-use Rattle.trials.specs.Trials.{lesserNumber, with, nextOf, table}
+use Rattle.potentials.specs.Potentials.{lesserNumber, with}
+use Rattle.trials.specs.Trials.{nextOf, table}
 use Rattle.trials.proofs.Centring.{next-took}
 use Rattle.trials.proofs.Agree.{next-same}
 use Rattle.seeding.specs.Seeding.{centresOf, seeding}

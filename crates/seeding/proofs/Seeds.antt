@@ -14,7 +14,8 @@ use Rattle.draws.specs.Counts.{trialsOf, seedingOf}
 use Rattle.draws.specs.Draws.{Drawn, drawn, refused, one}
 use Rattle.draws.proofs.Counting.{trials-some}
 use Rattle.draws.proofs.Taken.{Ends, Among, behind, take-behind, then-ends, then-behind, ends-map, one-took}
-use Rattle.trials.specs.Trials.{with, nextOf}
+use Rattle.potentials.specs.Potentials.{with}
+use Rattle.trials.specs.Trials.{nextOf}
 use Rattle.trials.proofs.Centring.{next-took, next-behind}
 use Rattle.seeding.specs.declared.Seeded.the-variants.{Done, Stopped}
 use Rattle.seeding.specs.Seeding.{centresOf, seeding, Below, SeededBy}

@@ -16,9 +16,10 @@ use Rattle.draws.specs.Counts.{trialsOf}
 use Rattle.draws.specs.Draws.{Drawn, drawn, refused, indexDraw}
 use Rattle.draws.specs.Stops.{drawOf}
 use Rattle.draws.proofs.Taken.{draw-value, draw-stopped}
-use Rattle.trials.specs.declared.Trial.{Trial}
+use Rattle.potentials.specs.declared.Trial.{Trial}
 use Rattle.trials.specs.declared.Tried.the-variants as tried
-use Rattle.trials.specs.Trials.{with, nextOf, triedOf}
+use Rattle.potentials.specs.Potentials.{with}
+use Rattle.trials.specs.Trials.{nextOf, triedOf}
 use Rattle.trials.proofs.Centring.{next-took, search-stopped, search-best}
 use Rattle.seeding.specs.declared.Seeded.{Seeded}
 use Rattle.seeding.specs.declared.Seeded.the-variants.{Done, Stopped}

@@ -9,7 +9,7 @@ use Rattle.lists.specs.Lists.{numbers}
 use Rattle.lists.specs.Sums.{zero64, sumTo}
 use Rattle.draws.specs.Counts.{trialsOf}
 use Rattle.draws.specs.Draws.{drawn}
-use Rattle.trials.specs.Trials.{lesserNumber}
+use Rattle.potentials.specs.Potentials.{lesserNumber}
 use Rattle.seeding.specs.Seeding.{firstCentres}
 
 -- item i's weight: its least squared distance to one of the centres cs, a NaN giving way to a number

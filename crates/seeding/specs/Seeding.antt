@@ -8,8 +8,9 @@ use Rattle.lists.specs.Lists.{cells, listed, numbers}
 use Rattle.draws.specs.Counts.{trialsOf, seedingOf}
 use Rattle.draws.specs.Draws.{Drawn, drawn, refused, indexDraw, andThen}
 use Rattle.draws.specs.declared.Stop.the-variants.{DrawOutOfRange}
-use Rattle.trials.specs.declared.Trial.{Trial}
-use Rattle.trials.specs.Trials.{nextOf, with}
+use Rattle.potentials.specs.declared.Trial.{Trial}
+use Rattle.potentials.specs.Potentials.{with}
+use Rattle.trials.specs.Trials.{nextOf}
 use Rattle.seeding.specs.declared.Seeded.{Seeded}
 use Rattle.seeding.specs.declared.Seeded.the-variants.{Done, Stopped}
 

@@ -4,7 +4,7 @@ ghost use Prim.Native.Nat.{_<_, _≤_, _+_, _-_, _*_};
 ghost use lib.ListN.{length, take, drop};
 ghost use Rattle.lists.specs.Lists.{cells, listed};
 ghost use Rattle.draws.specs.Counts.{trialsOf, seedingOf};
-ghost use Rattle.trials.specs.Trials as spec;
+ghost use Rattle.potentials.specs.Potentials as spec;
 ghost use Rattle.trials.specs.Trials.{table, nextOf, triedOf, Weighed};
 ghost use Rattle.seeding.specs.Seeding.{centresOf, seeding, Weights, Ready, SeededBy};
 
@@ -21,7 +21,7 @@ fn keep_lesser(weights: &mut [f64], squares: &[f64])
 {
     let m = weights.len();
     for i in 0..m {
-        weights[i] = trials::lesser_number(weights[i], squares[i]);
+        weights[i] = potentials::lesser_number(weights[i], squares[i]);
     }
 }
 

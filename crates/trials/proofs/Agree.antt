@@ -9,8 +9,9 @@ use Rattle.lists.specs.Sums.{sumTo}
 use Rattle.lists.proofs.Sums.{sum-same}
 use Rattle.draws.specs.Draws.{takes, one}
 use Rattle.draws.proofs.Taken.{one-took, takes-same, then-same}
-use Rattle.trials.specs.Trials.{running, lesserNumber, with, limit, pick, tried, better, trial, against, bestTrial, nextOf}
-use Rattle.trials.proofs.Picks.{pick-below}
+use Rattle.potentials.specs.Potentials.{running, lesserNumber, with, limit, pick, tried, better, trial}
+use Rattle.trials.specs.Trials.{against, bestTrial, nextOf}
+use Rattle.potentials.proofs.Picks.{pick-below}
 use Rattle.trials.proofs.Centring.{limit-some}
 
 module _ (q q′ : ℕ → ℕ → Float) (m : ℕ) (z : 0 < m) (same : (p i : ℕ) → p < m → i < m → q p i ≡ q′ p i) where

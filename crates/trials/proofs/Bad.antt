@@ -8,7 +8,8 @@ use Rattle.lists.specs.Lists.{cells}
 use Rattle.lists.specs.Sums.{sumTo}
 use Rattle.draws.specs.Draws.{takes, one}
 use Rattle.draws.proofs.Bad.{Reads, Above, reads-map, then-reads, takes-bad}
-use Rattle.trials.specs.Trials.{limit, trial, against, bestTrial, nextOf}
+use Rattle.potentials.specs.Potentials.{limit, trial}
+use Rattle.trials.specs.Trials.{against, bestTrial, nextOf}
 
 pub next-bad : (q : ℕ → ℕ → Float) (m t : ℕ) → 0 < t → (ws : List Float) (draws : List ℕ) (at : ℕ) → at + t ≤ length draws
     → Reads draws (at + t) (Above (limit (sumTo (cells ws) m) m) at t draws) (nextOf q m t ws at (drop at draws))

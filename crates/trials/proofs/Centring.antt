@@ -12,12 +12,13 @@ use Rattle.lists.specs.Sums.{zero64, sumTo}
 use Rattle.draws.specs.declared.Draw.the-variants as draw
 use Rattle.draws.specs.declared.Stop.{Stop}
 use Rattle.draws.specs.declared.Stop.the-variants.{DrawOutOfRange}
-use Rattle.trials.specs.declared.Trial.{Trial}
+use Rattle.potentials.specs.declared.Trial.{Trial}
 use Rattle.trials.specs.declared.Tried.the-variants.{Best, Stopped}
 use Rattle.draws.specs.Stops.{drawOf}
 use Rattle.draws.specs.Draws.{Drawn, drawn, refused, takes, one, shares}
-use Rattle.trials.specs.Trials.{running, limit, trial, against, bestTrial, nextOf, triedOf}
-use Rattle.trials.proofs.Picks.{pick-below}
+use Rattle.potentials.specs.Potentials.{running, limit, trial}
+use Rattle.trials.specs.Trials.{against, bestTrial, nextOf, triedOf}
+use Rattle.potentials.proofs.Picks.{pick-below}
 use Rattle.draws.proofs.Taken.{Ends, behind, took, take-behind, then-ends, then-behind, ends-map, one-took, draw-value, draw-stopped}
 
 better-below : (t b : Trial) (m : ℕ) (x : Bool) → t .pick < m → b .pick < m → cond x t b .pick < m

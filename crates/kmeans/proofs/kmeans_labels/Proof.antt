@@ -4,7 +4,7 @@ use borrow.Author.Needs.{needs}
 use Rattle.kmeans_answers.specs.Answers.{numberOf}
 use Rattle.kmeans_answers.proofs.Laws.{not-started, was-run}
 use Rattle.kmeans.specs.Leaves.{labelsLeaf}
-use Rattle.kmeans.proofs.Laws.{asked-is, lists-sized, none-refused, points-are, starts, wiped-back}
+use Rattle.kmeans_answers.proofs.Runs.{asked-is, lists-sized, none-refused, points-are, starts, wiped-back}
 use Rattle.kmeans.proofs.kmeans_labels.Statement.{statement}
 use Rattle.kmeans.proofs.kmeans_labels.Tie as tie
 

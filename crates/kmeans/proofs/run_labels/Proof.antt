@@ -7,7 +7,7 @@ use lib.Seq.{length-take-le}
 use borrow.Author.Tests.{ltb-false}
 use borrow.Author.Needs.{needs}
 use Rattle.draws.specs.Counts.{seedingOf}
-use Rattle.kmeans.proofs.Laws.{areas-back, enough-draws, too-few}
+use Rattle.kmeans_answers.proofs.Runs.{areas-back, enough-draws, too-few}
 use Rattle.kmeans.proofs.run_labels.Statement.{statement}
 use Rattle.kmeans.proofs.run_labels.Tie as tie
 

@@ -6,7 +6,7 @@ use lib.Ieee.{nan}
 use borrow.Author.Needs.{needs}
 use Rattle.lists.specs.Lists.{cells}
 use Rattle.lists.proofs.Listed.{writes, writes-done, writes-step}
-use Rattle.trials.specs.Trials.{lesserNumber}
+use Rattle.potentials.specs.Potentials.{lesserNumber}
 use Rattle.seeding.proofs.keep_lesser.Statement.{statement}
 use Rattle.seeding.proofs.keep_lesser.Tie as tie
 

@@ -14,7 +14,7 @@ use Rattle.trials.specs.Trials.{nextOf, table, triedOf}
 use Rattle.trials.specs.declared.Tried.the-variants.{Best}
 use Rattle.draws.proofs.Counting.{trials-some, trials-two}
 use Rattle.seeding.proofs.Turns.{centre-best, centre-none, centre-stopped, seeded-done, seeded-stopped, turn-fits, turn-next}
-use Rattle.trials.specs.declared.Trial.{Trial}
+use Rattle.potentials.specs.declared.Trial.{Trial}
 use Rattle.seeding.proofs.more_centres.Statement.{statement}
 use Rattle.seeding.proofs.more_centres.Tie as tie
 

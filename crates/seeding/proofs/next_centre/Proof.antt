@@ -5,13 +5,14 @@ use lib.ListN.{drop, length}
 use borrow.Author.Needs.{needs}
 use Rattle.seeding.specs.Seeding.{Weights}
 use Rattle.draws.specs.Draws.{Drawn}
-use Rattle.trials.specs.Trials.{nextOf, table, triedOf, with}
+use Rattle.potentials.specs.Potentials.{with}
+use Rattle.trials.specs.Trials.{nextOf, table, triedOf}
 use Rattle.trials.specs.declared.Tried.the-variants.{Best}
 use Rattle.lists.specs.Lists.{cells, listed}
 use Rattle.draws.proofs.Taken.{Ends, ends-map}
 use Rattle.trials.proofs.Centring.{next-took, search-best, search-stopped}
 use Rattle.seeding.proofs.Turns.{row-fits, weights-best, weights-stopped}
-use Rattle.trials.specs.declared.Trial.{Trial}
+use Rattle.potentials.specs.declared.Trial.{Trial}
 use Rattle.seeding.proofs.next_centre.Statement.{statement}
 use Rattle.seeding.proofs.next_centre.Tie as tie
 

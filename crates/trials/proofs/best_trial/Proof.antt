@@ -6,7 +6,8 @@ use lib.Ieee.{Float}
 use borrow.Author.Needs.{needs}
 use Rattle.draws.specs.Stops.{drawOf}
 use Rattle.draws.specs.Draws.{one}
-use Rattle.trials.specs.Trials.{limit, table, triedOf}
+use Rattle.potentials.specs.Potentials.{limit}
+use Rattle.trials.specs.Trials.{table, triedOf}
 use Rattle.lists.specs.Sums.{sumTo}
 use Rattle.lists.specs.Lists.{cells}
 use Rattle.draws.proofs.Taken.{draw-value}

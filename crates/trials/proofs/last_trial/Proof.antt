@@ -5,10 +5,11 @@ use lib.ListN.{drop, length}
 use borrow.Author.Needs.{needs}
 use Rattle.draws.specs.Stops.{drawOf}
 use Rattle.draws.specs.Draws.{one}
-use Rattle.trials.specs.Trials.{against, better, limit, table}
+use Rattle.potentials.specs.Potentials.{better, limit}
+use Rattle.trials.specs.Trials.{against, table}
 use Rattle.lists.specs.Lists.{cells}
 use Rattle.draws.proofs.Taken.{draw-value, take-none, take-stopped, take-value}
-use Rattle.trials.specs.declared.Trial.{Trial}
+use Rattle.potentials.specs.declared.Trial.{Trial}
 use Rattle.trials.proofs.last_trial.Statement.{statement}
 use Rattle.trials.proofs.last_trial.Tie as tie
 

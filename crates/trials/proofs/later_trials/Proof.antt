@@ -6,11 +6,12 @@ use borrow.Author.Needs.{needs}
 use Rattle.draws.specs.Stops.{drawOf}
 use Rattle.draws.specs.Draws.{takes}
 use Rattle.draws.specs.Draws.{one}
-use Rattle.trials.specs.Trials.{against, better, limit, table, triedOf}
+use Rattle.potentials.specs.Potentials.{better, limit}
+use Rattle.trials.specs.Trials.{against, table, triedOf}
 use Rattle.lists.specs.Lists.{cells}
 use Rattle.draws.proofs.Taken.{draw-value, take-stopped, take-value}
 use Rattle.draws.specs.declared.Draw.the-variants.{Value}
-use Rattle.trials.specs.declared.Trial.{Trial}
+use Rattle.potentials.specs.declared.Trial.{Trial}
 use Rattle.trials.proofs.later_trials.Statement.{statement}
 use Rattle.trials.proofs.later_trials.Tie as tie
 

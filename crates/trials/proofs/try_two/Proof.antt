@@ -2,10 +2,10 @@ use Prim.Native.Nat.{_<_}
 use mathlib.Core.Path.{_∙_, _≡_}
 use native.Mathlib.Omega.{arith}
 use lib.ListN.{length}
-use Rattle.trials.specs.Trials.{pick, running}
+use Rattle.potentials.specs.Potentials.{pick, running}
 use Rattle.lists.specs.Lists.{cells}
 use Rattle.lists.proofs.Grid.{row-long}
-use Rattle.trials.proofs.Picks.{pick-below, pick-summed, summed-length}
+use Rattle.potentials.proofs.Picks.{pick-below, pick-summed, summed-length}
 use Rattle.trials.proofs.try_two.Statement.{statement}
 use Rattle.trials.proofs.try_two.Tie as tie
 

@@ -1,0 +1,2 @@
+-- Laws of the leaf of the centres.
+pub mod Laws

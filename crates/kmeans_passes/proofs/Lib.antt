@@ -1,0 +1,2 @@
+-- Laws of the leaf of Lloyd's passes.
+pub mod Laws

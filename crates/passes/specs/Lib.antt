@@ -1,0 +1,2 @@
+-- Lloyd's passes: the definition (Passes.antt).
+pub mod Passes

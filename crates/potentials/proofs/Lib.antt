@@ -1,0 +1,2 @@
+-- Laws of what a draw picks.
+pub mod Picks

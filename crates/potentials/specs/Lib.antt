@@ -1,0 +1,2 @@
+-- What a draw picks, its trial, and the better of two (Potentials.antt).
+pub mod Potentials
