@@ -8,8 +8,10 @@ use lib.Ieee.{Float}
 use Rattle.refusals.specs.Table.{Refusal}
 use Rattle.kmeans_answers.specs.Leaf.{Leaf}
 use Rattle.kmeans.specs.Leaves.{plusPlusLeaf, lloydLeaf, labelsLeaf}
-use Rattle.words.specs.Words.{wordFrom, sizeFrom, doublesFrom, wordsFrom, sameNumbers, seven, namesWiped, leftLists, countsBy}
-use Rattle.words.specs.declared.Counts.{Counts}
+use Rattle.words.specs.Words.{wordFrom, sizeFrom, doublesFrom, wordsFrom}
+use Rattle.compared.specs.Compared.{sameNumbers, seven, namesWiped, leftLists}
+use Rattle.counts.specs.Counting.{countsBy}
+use Rattle.counts.specs.declared.Counts.{Counts}
 use Rattle.replay.specs.declared.Case.{Case}
 
 -- the case at `at`: eight words, two lists, and then the expected answer, three words and the output list
