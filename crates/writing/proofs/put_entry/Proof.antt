@@ -5,9 +5,9 @@ use native.Mathlib.Omega.{arith}
 use borrow.Author.Needs.{needs}
 use Rattle.digits.specs.Digits.{numeral}
 use Rattle.digits.proofs.Numerals.{length-numeral}
-use Rattle.answer_text.proofs.Stores.{then, wrote-as, wrote-length}
-use Rattle.answer_text.proofs.put_entry.Statement.{statement}
-use Rattle.answer_text.proofs.put_entry.Tie as tie
+use Rattle.writing.proofs.Stores.{then, wrote-as, wrote-length}
+use Rattle.writing.proofs.put_entry.Statement.{statement}
+use Rattle.writing.proofs.put_entry.Tie as tie
 
 put-number-requires : tie.Need-put-number-requires
 put-number-requires c κs = search needs

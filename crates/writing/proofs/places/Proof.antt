@@ -1,7 +1,7 @@
 use native.Mathlib.Omega.{arith}
-use Rattle.answer_text.proofs.Counting.{Counting, count-starts, count-more, count-ends}
-use Rattle.answer_text.proofs.places.Statement.{statement}
-use Rattle.answer_text.proofs.places.Tie as tie
+use Rattle.writing.proofs.Counting.{Counting, count-starts, count-more, count-ends}
+use Rattle.writing.proofs.places.Statement.{statement}
+use Rattle.writing.proofs.places.Tie as tie
 
 abbrev Inv-loop : tie.InvT-loop
 Inv-loop x k₀ rest₀ k rest = Counting x k rest

@@ -1,8 +1,8 @@
 use borrow.Author.Tests.{eq-eqb, ne-eqb}
 use Rattle.digits.specs.Digits.{widthOf}
 use borrow.Author.Needs.{needs}
-use Rattle.answer_text.proofs.width_of.Statement.{statement}
-use Rattle.answer_text.proofs.width_of.Tie as tie
+use Rattle.writing.proofs.width_of.Statement.{statement}
+use Rattle.writing.proofs.width_of.Tie as tie
 
 returns : tie.Need-returns
 unfolding widthOf

@@ -1,9 +1,9 @@
 use native.Mathlib.Omega.{arith}
 use Rattle.digits.proofs.Numerals.{width-le}
-use Rattle.answer_text.proofs.Stores.{number-wrote}
+use Rattle.writing.proofs.Stores.{number-wrote}
 use borrow.Author.Needs.{needs}
-use Rattle.answer_text.proofs.put_number.Statement.{statement}
-use Rattle.answer_text.proofs.put_number.Tie as tie
+use Rattle.writing.proofs.put_number.Statement.{statement}
+use Rattle.writing.proofs.put_number.Tie as tie
 
 width-of-requires : tie.Need-width-of-requires
 width-of-requires c κs = search needs

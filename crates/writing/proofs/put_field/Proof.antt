@@ -1,7 +1,7 @@
-use Rattle.answer_text.proofs.Stores.{then}
+use Rattle.writing.proofs.Stores.{then}
 use borrow.Author.Needs.{needs}
-use Rattle.answer_text.proofs.put_field.Statement.{statement}
-use Rattle.answer_text.proofs.put_field.Tie as tie
+use Rattle.writing.proofs.put_field.Statement.{statement}
+use Rattle.writing.proofs.put_field.Tie as tie
 
 put-bytes-requires : tie.Need-put-bytes-requires
 put-bytes-requires c κs = search needs

@@ -6,9 +6,9 @@ use native.Mathlib.Nat.{mod-lt}
 use lib.ListN.{length, length-set}
 use lib.Seq.{sets}
 use Rattle.digits.specs.Digits.{digits}
-use Rattle.answer_text.proofs.Stores.{digit-stored, no-digits}
-use Rattle.answer_text.proofs.put_digits.Statement.{statement}
-use Rattle.answer_text.proofs.put_digits.Tie as tie
+use Rattle.writing.proofs.Stores.{digit-stored, no-digits}
+use Rattle.writing.proofs.put_digits.Statement.{statement}
+use Rattle.writing.proofs.put_digits.Tie as tie
 
 abbrev Inv-loop : tie.InvT-loop
 Inv-loop out₀ at x base k i₀ rest₀ out i rest = (i ≤ k) × (length out ≡ length out₀) × (sets out₀ at (digits base k x) ≡ sets out at (digits base i rest))

@@ -3,10 +3,10 @@ use Prim.Native.Nat.{_+_, _-_, _≤_}
 use mathlib.Core.Path.{_≡_, refl}
 use native.Mathlib.Omega.{arith}
 use lib.ListN.{length, take, length-set}
-use Rattle.answer_text.specs.Stores.{Wrote}
-use Rattle.answer_text.proofs.Stores.{bytes-more, bytes-all}
-use Rattle.answer_text.proofs.put_bytes.Statement.{statement}
-use Rattle.answer_text.proofs.put_bytes.Tie as tie
+use Rattle.writing.specs.Stores.{Wrote}
+use Rattle.writing.proofs.Stores.{bytes-more, bytes-all}
+use Rattle.writing.proofs.put_bytes.Statement.{statement}
+use Rattle.writing.proofs.put_bytes.Tie as tie
 
 abbrev Inv-loop : tie.InvT-loop
 Inv-loop out₀ at word n i₀ out i = (n ≡ length word) × (i ≤ n) × (length out ≡ length out₀) × Wrote out₀ out at (take i word) (at + i)

@@ -9,7 +9,7 @@ use lib.ListN.{length, set, getD, take, length-append}
 use lib.Seq.{sets, set-comm, length-sets, take-suc, take-length}
 use Rattle.digits.specs.Digits.{digitByte, digits, widthOf, numeral}
 use Rattle.digits.proofs.Numerals.{length-digits}
-use Rattle.answer_text.specs.Stores.{Wrote}
+use Rattle.writing.specs.Stores.{Wrote}
 
 -- two texts stored one behind the other are one text
 pub sets-append : (l : List ℕ) (p : ℕ) (w v : List ℕ) → sets (sets l p w) (p + length w) v ≡ sets l p (w ++ v)
