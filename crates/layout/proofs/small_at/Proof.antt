@@ -1,14 +1,14 @@
-use Rattle.request_text.specs.Layout.{plain as plainOf}
+use Rattle.layout.specs.Layout.{plain as plainOf}
 use Prim.Native.Nat.{ℕ}
 use mathlib.Core.Path.{_≡_, sym, ap, _∙_}
 use native.Mathlib.Omega.{arith}
 use borrow.Author.Tests.{not-true, not-false}
 use Rattle.digits.specs.Digits.{byteAt}
 use Rattle.digits.proofs.Scan.{in-text}
-use Rattle.request_text.proofs.Fields.{small-unplain, small-large, small-unended, small-read}
+use Rattle.layout.proofs.Fields.{small-unplain, small-large, small-unended, small-read}
 use borrow.Author.Needs.{needs}
-use Rattle.request_text.proofs.small_at.Statement.{statement}
-use Rattle.request_text.proofs.small_at.Tie as tie
+use Rattle.layout.proofs.small_at.Statement.{statement}
+use Rattle.layout.proofs.small_at.Tie as tie
 
 run-at-requires : tie.Need-run-at-requires
 run-at-requires c κs = search needs

@@ -1,10 +1,10 @@
 use mathlib.Core.Path.{_∙_, sym}
 use native.Mathlib.Omega.{arith}
 use borrow.Author.Needs.{needs}
-use Rattle.request_text.proofs.Found.{few-cells}
-use Rattle.request_text.proofs.Fields.{lists-right, more-behind, no-cells, no-draws}
-use Rattle.request_text.proofs.lists_of.Statement.{statement}
-use Rattle.request_text.proofs.lists_of.Tie as tie
+use Rattle.layout.proofs.Found.{few-cells}
+use Rattle.layout.proofs.Fields.{lists-right, more-behind, no-cells, no-draws}
+use Rattle.layout.proofs.lists_of.Statement.{statement}
+use Rattle.layout.proofs.lists_of.Tie as tie
 
 cell-form-requires : tie.Need-cell-form-requires
 cell-form-requires c κs = search needs

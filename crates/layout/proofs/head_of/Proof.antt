@@ -1,8 +1,8 @@
 use mathlib.Core.Path.{sym, _∙_}
 use borrow.Author.Needs.{needs}
-use Rattle.request_text.proofs.Fields.{no-count, head-right, no-names, no-repeats}
-use Rattle.request_text.proofs.head_of.Statement.{statement}
-use Rattle.request_text.proofs.head_of.Tie as tie
+use Rattle.layout.proofs.Fields.{no-count, head-right, no-names, no-repeats}
+use Rattle.layout.proofs.head_of.Statement.{statement}
+use Rattle.layout.proofs.head_of.Tie as tie
 
 small-at-requires : tie.Need-small-at-requires
 small-at-requires c κs = search needs

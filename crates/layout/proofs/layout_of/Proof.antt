@@ -1,9 +1,9 @@
 use mathlib.Core.Path.{sym, _∙_}
-use Rattle.request_text.specs.Layout.{layoutOf}
-use Rattle.request_text.proofs.Found.{head-within}
+use Rattle.layout.specs.Layout.{layoutOf}
+use Rattle.layout.proofs.Found.{head-within}
 use borrow.Author.Needs.{needs}
-use Rattle.request_text.proofs.layout_of.Statement.{statement}
-use Rattle.request_text.proofs.layout_of.Tie as tie
+use Rattle.layout.proofs.layout_of.Statement.{statement}
+use Rattle.layout.proofs.layout_of.Tie as tie
 
 head-of-requires : tie.Need-head-of-requires
 head-of-requires c κs = search needs

@@ -2,8 +2,8 @@ use borrow.Author.Tests.{eq-eqb, ne-eqb}
 use native.Mathlib.Omega.{arith}
 use Rattle.digits.proofs.Scan.{in-text}
 use borrow.Author.Needs.{needs}
-use Rattle.request_text.proofs.empty_at.Statement.{statement}
-use Rattle.request_text.proofs.empty_at.Tie as tie
+use Rattle.layout.proofs.empty_at.Statement.{statement}
+use Rattle.layout.proofs.empty_at.Tie as tie
 
 byte-at-requires : tie.Need-byte-at-requires
 byte-at-requires c κs = search needs

@@ -1,7 +1,7 @@
 use borrow.Author.Tests.{eq-eqb, ne-eqb}
-use Rattle.request_text.specs.Layout.{plain}
-use Rattle.request_text.proofs.plain.Statement.{statement}
-use Rattle.request_text.proofs.plain.Tie as tie
+use Rattle.layout.specs.Layout.{plain}
+use Rattle.layout.proofs.plain.Statement.{statement}
+use Rattle.layout.proofs.plain.Tie as tie
 
 returns : tie.Need-returns
 unfolding plain

@@ -12,12 +12,12 @@ use Rattle.lists.specs.Sums.{allTo}
 use Rattle.lists.proofs.Sums.{all-fails, all-true}
 use Rattle.lists.proofs.Tests.{both}
 use Rattle.digits.proofs.Scan.{in-text, stop-positive}
-use Rattle.request_text.specs.Layout.{cellForm, drawForm, fieldOk, headOf, lineAt, listsOf, plain, smallAt, startOf, valueOf}
-use Rattle.request_text.specs.declared.Form.{Form}
-use Rattle.request_text.specs.declared.Small.the-variants.{Number, NoNumber}
-use Rattle.request_text.specs.declared.Line.the-variants.{NoLine, Ends}
-use Rattle.request_text.specs.declared.Head.the-variants.{NoSizes, Sizes}
-use Rattle.request_text.specs.declared.Layout.the-variants.{NotFound, Found}
+use Rattle.layout.specs.Layout.{cellForm, drawForm, fieldOk, headOf, lineAt, listsOf, plain, smallAt, startOf, valueOf}
+use Rattle.layout.specs.declared.Form.{Form}
+use Rattle.layout.specs.declared.Small.the-variants.{Number, NoNumber}
+use Rattle.layout.specs.declared.Line.the-variants.{NoLine, Ends}
+use Rattle.layout.specs.declared.Head.the-variants.{NoSizes, Sizes}
+use Rattle.layout.specs.declared.Layout.the-variants.{NotFound, Found}
 
 -- a number of the first line: k digits at p with the number v, up to e
 module _ (s : List ℕ) (p bound stop v k e : ℕ) (hv : v ≡ spelled 10 s p k) (hk : k ≡ runOf 10 s p 19) (he : e ≡ p + k) where

@@ -7,8 +7,8 @@ use native.Mathlib.Nat.{add-zero, pow-zero}
 use native.Mathlib.Omega.{arith}
 use Rattle.digits.specs.Digits.{digitOf, runOf, spelled, byteAt}
 use Rattle.digits.proofs.Scan.{digit-in-text, run-starts, run-more, run-stops, run-full, spelled-more, spelled-none, one-more, still-fits}
-use Rattle.request_text.proofs.run_at.Statement.{statement}
-use Rattle.request_text.proofs.run_at.Tie as tie
+use Rattle.layout.proofs.run_at.Statement.{statement}
+use Rattle.layout.proofs.run_at.Tie as tie
 
 abbrev Inv-loop : tie.InvT-loop
 Inv-loop text at base most value₀ end₀ k₀ value end k =

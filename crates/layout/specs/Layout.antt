@@ -6,15 +6,15 @@ use lib.Dec.{leb, eqb}
 use lib.ListN.{length}
 use Rattle.lists.specs.Sums.{allTo}
 use Rattle.digits.specs.Digits.{byteAt, runOf, spelled, space, newline, stopOf}
-use Rattle.request_text.specs.declared.Form.{Form}
-use Rattle.request_text.specs.declared.Small.{Small}
-use Rattle.request_text.specs.declared.Small.the-variants.{Number, NoNumber}
-use Rattle.request_text.specs.declared.Line.{Line}
-use Rattle.request_text.specs.declared.Line.the-variants.{Ends, NoLine}
-use Rattle.request_text.specs.declared.Head.{Head}
-use Rattle.request_text.specs.declared.Head.the-variants.{Sizes, NoSizes}
-use Rattle.request_text.specs.declared.Layout.{Layout}
-use Rattle.request_text.specs.declared.Layout.the-variants.{Found, NotFound}
+use Rattle.layout.specs.declared.Form.{Form}
+use Rattle.layout.specs.declared.Small.{Small}
+use Rattle.layout.specs.declared.Small.the-variants.{Number, NoNumber}
+use Rattle.layout.specs.declared.Line.{Line}
+use Rattle.layout.specs.declared.Line.the-variants.{Ends, NoLine}
+use Rattle.layout.specs.declared.Head.{Head}
+use Rattle.layout.specs.declared.Head.the-variants.{Sizes, NoSizes}
+use Rattle.layout.specs.declared.Layout.{Layout}
+use Rattle.layout.specs.declared.Layout.the-variants.{Found, NotFound}
 
 -- ---- the first line
 

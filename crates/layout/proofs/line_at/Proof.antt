@@ -5,12 +5,12 @@ use mathlib.Core.Path.{_≡_, refl, sym, _∙_}
 use mathlib.Core.Bool.{true}
 use native.Mathlib.Omega.{arith}
 use Rattle.lists.specs.Sums.{allTo}
-use Rattle.request_text.specs.Layout.{startOf, fieldOk}
+use Rattle.layout.specs.Layout.{startOf, fieldOk}
 use Rattle.lists.proofs.Sums.{all-more}
 use Rattle.digits.proofs.Scan.{in-text, stop-positive}
-use Rattle.request_text.proofs.Fields.{field-short, field-unended, field-right, start-more, start-none, line-empty, no-line, line-ends}
-use Rattle.request_text.proofs.line_at.Statement.{statement}
-use Rattle.request_text.proofs.line_at.Tie as tie
+use Rattle.layout.proofs.Fields.{field-short, field-unended, field-right, start-more, start-none, line-empty, no-line, line-ends}
+use Rattle.layout.proofs.line_at.Statement.{statement}
+use Rattle.layout.proofs.line_at.Tie as tie
 
 abbrev Inv-loop : tie.InvT-loop
 Inv-loop text form at n q₀ t₀ q t = (t ≤ n) × (q ≡ startOf form text at t) × (allTo (fieldOk form text at n) t ≡ true)
