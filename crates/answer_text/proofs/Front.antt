@@ -12,9 +12,9 @@ use lib.Seq.{sets-eq, take-at}
 use Rattle.lists.proofs.Tests.{both}
 use Rattle.refusals.specs.Table.{Refusal, none, refused}
 use Rattle.bits.specs.Bits.{bitsOf}
-use Rattle.answer_text.specs.Stores.{Wrote}
+use Rattle.writing.specs.Stores.{Wrote}
 use Rattle.answer_text.specs.Answer.{lineText, sizesText, groupedText, Writing, writtenOf, room, mostNames, groupingFits, refusalFits}
-use Rattle.answer_text.proofs.Stores.{then, wrote-as, wrote-length}
+use Rattle.writing.proofs.Stores.{then, wrote-as, wrote-length}
 use Rattle.answer_text.proofs.Lines.{length-text}
 use Rattle.answer_text.proofs.Texts.{length-sizes, length-grouped, grouped-is}
 

@@ -10,9 +10,9 @@ use Rattle.digits.specs.Digits.{numeral, stopOf, widthOf}
 use Rattle.digits.specs.Lines.{fieldsOf}
 use Rattle.digits.proofs.Numerals.{length-numeral, width-le}
 use Rattle.digits.proofs.Lines.{fields-more, fields-none, length-line, line-none, line-some}
-use Rattle.answer_text.specs.Stores.{Wrote}
+use Rattle.writing.specs.Stores.{Wrote}
 use Rattle.answer_text.specs.Answer.{lineText}
-use Rattle.answer_text.proofs.Stores.{then, nothing, wrote-as, wrote-length}
+use Rattle.writing.proofs.Stores.{then, nothing, wrote-as, wrote-length}
 
 -- the first t numbers of xs, each with the byte that ends it in a line of n
 abbrev pub fieldsText : ℕ → List ℕ → ℕ → ℕ → List ℕ

@@ -9,8 +9,6 @@ use Rattle.refusals.specs.Table.{Refusal, none, refused}
 use Rattle.bits.specs.Bits.{bitsOf}
 use Rattle.digits.specs.Digits.{numeral, widthOf, newline}
 use Rattle.digits.specs.Lines.{lineOf}
-use Rattle.answer_text.specs.declared.Written.{Written}
-use Rattle.answer_text.specs.declared.Written.the-variants.{Bytes, ListLength}
 
 -- the numbers of xs in base b, in one line. An empty list is an empty line
 unfoldable pub lineText : ℕ → List ℕ → List ℕ
@@ -61,22 +59,6 @@ groupingFits labels scores out = leb (length labels) mostNames && (eqb (length s
 
 abbrev pub refusalFits : List ℕ → Bool
 refusalFits out = leb room (length out)
-
--- the table's number of an answer, 0 where the text is written; its place, 0, since the table names none for 6; and how many bytes the text takes
-abbrev pub numberOf : Written → ℕ
-numberOf (Bytes n) = 0
-numberOf ListLength = 6
-
-abbrev pub placeOf : Written → ℕ
-placeOf (Bytes n) = 0
-placeOf ListLength = 0
-
-abbrev pub refusalOf : Written → Refusal
-refusalOf w = record { number = numberOf w; place = placeOf w }
-
-abbrev pub bytesOf : Written → ℕ
-bytesOf (Bytes n) = n
-bytesOf ListLength = 0
 
 -- what a call answers, and what it leaves in the list that it is lent
 pub record Writing : Type 0 where

@@ -1,128 +1,17 @@
 // The text that the grouping program writes: a grouping, or a refusal.
 ghost use mathlib.Core.Path.{_≡_};
 ghost use mathlib.Core.Bool.{true, _&&_};
-ghost use Prim.Native.Nat.{_+_, _*_, _<_, _≤_};
-ghost use mathlib.Core.List.{_++_, _∷_, [], map};
+ghost use Prim.Native.Nat.{_+_, _*_, _≤_};
+ghost use mathlib.Core.List.{map};
 ghost use lib.Dec.{leb, eqb};
 ghost use lib.ListN.{length};
-ghost use lib.Seq.{sets};
 ghost use Rattle.bits.specs.Bits.{bitsOf};
-ghost use Rattle.digits.specs.Digits.{digits as digitsOf, placesTo, widthOf, numeral, stopOf};
-ghost use Rattle.answer_text.specs.Stores.{Wrote};
-ghost use Rattle.answer_text.specs.Answer.{lineText, sizesText, groupedText, refusedText, room, mostNames, groupingFits, refusalFits, numberOf, refusalOf, bytesOf, writtenOf};
-
-// How many bytes were written, or that a list's length is wrong.
-pub enum Written {
-    Bytes(usize),
-    ListLength,
-}
-
-// The table's number; 0 where the text is written.
-pub fn number_of(w: Written) -> usize
-    ensures { λ r. ⌜ r ≡ numberOf w ⌝ }
-{
-    match w {
-        Written::Bytes(_n) => 0,
-        Written::ListLength => 6,
-    }
-}
-
-// How many bytes were written; 0 for a refusal.
-pub fn bytes_of(w: Written) -> usize
-    ensures { λ r. ⌜ r ≡ bytesOf w ⌝ }
-{
-    match w {
-        Written::Bytes(n) => n,
-        Written::ListLength => 0,
-    }
-}
-
-// How many decimal digits a number takes.
-fn places(x: u64) -> usize
-    ensures { λ r. ⌜ r ≡ placesTo 20 x ⌝ }
-{
-    let mut k: usize = 1;
-    let mut rest = x;
-    while rest >= 10 {
-        rest = rest / 10;
-        k += 1;
-    }
-    k
-}
-
-// How many digits a number is written with.
-fn width_of(x: u64, base: u64) -> usize
-    ensures { λ r. ⌜ r ≡ widthOf base x ⌝ }
-{
-    if base == 16 {
-        return 16;
-    }
-    places(x)
-}
-
-// The last k digits of a number, stored from the last one on.
-fn put_digits(out: &mut [u8], at: usize, x: u64, base: u64, k: usize)
-    requires { ⌜ (0 < base) × (base ≤ 16) × (at + k ≤ length (now out)) ⌝ }
-    ensures { λ _. ⌜ now (out .exit) ≡ sets (now (out .entry)) at (digitsOf base k x) ⌝ }
-{
-    let mut i = k;
-    let mut rest = x;
-    while i > 0 {
-        i -= 1;
-        out[at + i] = digits::digit_byte(rest % base);
-        rest = rest / base;
-    }
-}
+ghost use Rattle.writing.specs.Stores.{Wrote};
+ghost use Rattle.writing.specs.Answers.{refusalOf, bytesOf};
+ghost use Rattle.answer_text.specs.Answer.{lineText, sizesText, groupedText, refusedText, room, mostNames, groupingFits, refusalFits, writtenOf};
+use writing::Written;
 
 // Each `put_` function below writes from a place on, and answers the place behind what it wrote.
-// A number, in base 10 or 16.
-fn put_number(out: &mut [u8], at: usize, x: u64, base: u64) -> usize
-    requires { ⌜ (0 < base) × (base ≤ 16) × (at + 20 ≤ length (now out)) ⌝ }
-    ensures { λ r. ⌜ Wrote (now (out .entry)) (now (out .exit)) at (numeral base x) r ⌝ }
-{
-    let k = width_of(x, base);
-    put_digits(out, at, x, base, k);
-    at + k
-}
-
-fn put_byte(out: &mut [u8], at: usize, b: u8) -> usize
-    requires { ⌜ at < length (now out) ⌝ }
-    ensures { λ r. ⌜ Wrote (now (out .entry)) (now (out .exit)) at (b ∷ []) r ⌝ }
-{
-    out[at] = b;
-    at + 1
-}
-
-fn put_bytes(out: &mut [u8], at: usize, word: &[u8]) -> usize
-    requires { ⌜ at + length (now word) ≤ length (now out) ⌝ }
-    ensures { λ r. ⌜ Wrote (now (out .entry)) (now (out .exit)) at (now (word .entry)) r ⌝ }
-{
-    let n = word.len();
-    for i in 0..n {
-        out[at + i] = word[i];
-    }
-    at + n
-}
-
-// A word, and a decimal number behind it.
-fn put_field(out: &mut [u8], at: usize, word: &[u8], x: u64) -> usize
-    requires { ⌜ at + length (now word) + 20 ≤ length (now out) ⌝ }
-    ensures { λ r. ⌜ Wrote (now (out .entry)) (now (out .exit)) at (now (word .entry) ++ numeral 10 x) r ⌝ }
-{
-    let p = put_bytes(out, at, word);
-    put_number(out, p, x, 10)
-}
-
-// Number t of a line of n, and the byte that ends it.
-fn put_entry(out: &mut [u8], at: usize, x: u64, base: u64, t: usize, n: usize) -> usize
-    requires { ⌜ (0 < base) × (base ≤ 16) × (t < n) × (at + 21 ≤ length (now out)) ⌝ }
-    ensures { λ r. ⌜ Wrote (now (out .entry)) (now (out .exit)) at (numeral base x ++ (stopOf t n ∷ [])) r ⌝ }
-{
-    let p = put_number(out, at, x, base);
-    let stop = digits::stop_of(t, n);
-    put_byte(out, p, stop)
-}
-
 // The labels as a line, in decimal.
 fn put_labels(out: &mut [u8], at: usize, labels: &[usize]) -> usize
     requires { ⌜ at + 21 * length (now labels) + 1 ≤ length (now out) ⌝ }
@@ -130,11 +19,11 @@ fn put_labels(out: &mut [u8], at: usize, labels: &[usize]) -> usize
 {
     let n = labels.len();
     if n == 0 {
-        return put_byte(out, at, b'\n');
+        return writing::put_byte(out, at, b'\n');
     }
     let mut p = at;
     for t in 0..n {
-        p = put_entry(out, p, labels[t] as u64, 10, t, n);
+        p = writing::put_entry(out, p, labels[t] as u64, 10, t, n);
     }
     p
 }
@@ -146,12 +35,12 @@ fn put_scores(out: &mut [u8], at: usize, scores: &[f64]) -> usize
 {
     let n = scores.len();
     if n == 0 {
-        return put_byte(out, at, b'\n');
+        return writing::put_byte(out, at, b'\n');
     }
     let mut p = at;
     for t in 0..n {
         let b = bits::bits_of(scores[t]);
-        p = put_entry(out, p, b, 16, t, n);
+        p = writing::put_entry(out, p, b, 16, t, n);
     }
     p
 }
@@ -161,10 +50,10 @@ fn put_sizes(out: &mut [u8], names: u64, groups: u64, draws: u64) -> usize
     requires { ⌜ 82 ≤ length (now out) ⌝ }
     ensures { λ r. ⌜ Wrote (now (out .entry)) (now (out .exit)) 0 (sizesText names groups draws) r ⌝ }
 {
-    let p = put_field(out, 0, b"names ", names);
-    let q = put_field(out, p, b" groups ", groups);
-    let e = put_field(out, q, b" draws ", draws);
-    put_byte(out, e, b'\n')
+    let p = writing::put_field(out, 0, b"names ", names);
+    let q = writing::put_field(out, p, b" groups ", groups);
+    let e = writing::put_field(out, q, b" draws ", draws);
+    writing::put_byte(out, e, b'\n')
 }
 
 fn put_grouping(
@@ -186,9 +75,9 @@ fn put_refused(out: &mut [u8], number: u64, place: u64) -> usize
     requires { ⌜ room ≤ length (now out) ⌝ }
     ensures { λ r. ⌜ Wrote (now (out .entry)) (now (out .exit)) 0 (refusedText number place) r ⌝ }
 {
-    let p = put_field(out, 0, b"refused ", number);
-    let q = put_field(out, p, b" at ", place);
-    put_byte(out, q, b'\n')
+    let p = writing::put_field(out, 0, b"refused ", number);
+    let q = writing::put_field(out, p, b" at ", place);
+    writing::put_byte(out, q, b'\n')
 }
 
 // Whether a grouping of so many labels and scores is written to a list of so many bytes.

@@ -9,7 +9,8 @@ use lib.ListN.{length, replicate, length-replicate}
 use lib.Ieee.{Float}
 use Rattle.stats.specs.Average.{averaged}
 use Rattle.refusals.specs.Table.{Refusal, Worked}
-use Rattle.words.specs.Words.{doublesFrom, wordsFrom, seven, frontOf, namesWiped, leftDoubles}
+use Rattle.words.specs.Words.{doublesFrom, wordsFrom}
+use Rattle.compared.specs.Compared.{seven, frontOf, namesWiped, leftDoubles}
 use Rattle.words.proofs.Values.{first-fails, first-passes}
 use Rattle.examples.specs.declared.Case.{Case}
 use Rattle.examples.specs.Cases.{averageOf, half, listOf, namesOf, sameOutcome, rightLeaf, rightLists, rightCase}

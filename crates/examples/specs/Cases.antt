@@ -15,8 +15,10 @@ use Rattle.distance.specs.Leaves.{corrToDistance, corrToDistanceThrough, submat
 use Rattle.squared.specs.Leaves.{Measured, squaredDistance, squaredDistanceThrough}
 use Rattle.pairwise.specs.Leaves.{pairwiseDistances, pairwiseDistancesThrough}
 use Rattle.silhouette.specs.Leaf.{silhouettesOf}
-use Rattle.words.specs.Words.{wordFrom, sizeFrom, doublesFrom, wordsFrom, sameNumbers, sameDoubles, seven, frontOf, namesWiped, leftDoubles, countsBy}
-use Rattle.words.specs.declared.Counts.{Counts}
+use Rattle.words.specs.Words.{wordFrom, sizeFrom, doublesFrom, wordsFrom}
+use Rattle.compared.specs.Compared.{sameNumbers, sameDoubles, seven, frontOf, namesWiped, leftDoubles}
+use Rattle.counts.specs.Counting.{countsBy}
+use Rattle.counts.specs.declared.Counts.{Counts}
 use Rattle.examples.specs.declared.Case.{Case}
 
 -- where the expected answer of the case at `at` stands: behind eight words and two lists

@@ -12,12 +12,13 @@ ghost use lib.ListN.{length, take, replicate};
 ghost use Rattle.refusals.specs.Table.{refusalOf};
 ghost use Rattle.stats.specs.Average.{averagedOf};
 ghost use Rattle.squared.specs.Leaves.{measuredOf};
-ghost use Rattle.words.specs.Words.{seven, doublesFrom, wordsFrom, sameNumbers, sameDoubles};
+ghost use Rattle.words.specs.Words.{doublesFrom, wordsFrom};
+ghost use Rattle.compared.specs.Compared.{seven, sameNumbers, sameDoubles};
 ghost use Rattle.examples.specs.Cases.{caseAt, averageOf, measuredBy, firstRoot, half, valueOf, listOf, namesOf, sameOutcome, rightValue, rightLeaf, rightLists, rightCase, countsIn};
+use counts::Counts;
 use refusals::Answer;
 use squared::Squared;
 use stats::Average;
-use words::Counts;
 
 // The sizes of a case, the word at which its expected answer starts, and the one at which the next case does.
 struct Case {
@@ -210,10 +211,10 @@ fn same_values(text: &[u8], expected: usize, answer: &[usize], values: &[f64]) -
     requires { ⌜ expected ≤ 20296 ⌝ }
     ensures { λ r. ⌜ r ≡ sameNumbers (now (text .entry)) expected (now (answer .entry)) && sameDoubles (now (text .entry)) (expected + 3) (now (values .entry)) ⌝ }
 {
-    if !words::same_numbers(text, expected, answer) {
+    if !compared::same_numbers(text, expected, answer) {
         return false;
     }
-    words::same_doubles(text, expected + 3, values)
+    compared::same_doubles(text, expected + 3, values)
 }
 
 // Whether the text has this answer's number and place, the count of these values and their patterns at `expected`.
@@ -223,7 +224,7 @@ fn same_outcome(text: &[u8], expected: usize, a: Answer, values: &[f64]) -> bool
 {
     let answer = [refusals::number_of(a), refusals::place_of(a), values.len()];
     let right = same_values(text, expected, &answer, values);
-    words::shown(right, text, expected, &answer)
+    counts::shown(right, text, expected, &answer)
 }
 
 // Whether a leaf that answers one value or none answers what is expected.
@@ -253,8 +254,8 @@ fn right_leaf(
     if !same_outcome(text, c.expected, answer, out) {
         return false;
     }
-    let names = words::names_wiped(refusals::number_of(answer), names_of(c));
-    words::left_doubles(floats, words::front(names))
+    let names = compared::names_wiped(refusals::number_of(answer), names_of(c));
+    compared::left_doubles(floats, compared::front(names))
 }
 
 // The same, on lists of the case's sizes.
@@ -312,7 +313,7 @@ fn run(text: &[u8]) -> Counts
     while at < words {
         let c = read_case(text, at);
         let right = right_case(text, at, c);
-        counts = words::counted(counts, right, c.leaf, at, c.next, words);
+        counts = counts::counted(counts, right, c.leaf, at, c.next, words);
         at = c.next;
     }
     counts
@@ -322,5 +323,5 @@ fn main() {
     let mut text = words::text_buffer();
     let n = io::read_full(0, &mut text);
     let counts = run(&text[..n]);
-    words::summary(counts, n, text.len());
+    counts::summary(counts, n, text.len());
 }

@@ -14,7 +14,7 @@ use Rattle.bits.specs.Bits.{doubleOf}
 use Rattle.request_text.specs.Request.{requestOf}
 use Rattle.request_text.specs.Written.{requestText}
 use Rattle.request_text.specs.Claim.{Limits, InLayout}
-use Rattle.request_text.proofs.Found.{filledOf, as-filled}
+use Rattle.request_text.proofs.Gives.{filledOf, as-filled}
 use Rattle.request_text.proofs.Claim.{layout-claim}
 use Rattle.answer_text.specs.Answer.{refusedText}
 use Rattle.grouping_text.specs.Program.{bookText, textOf, programOf}

@@ -10,7 +10,8 @@ use Rattle.lists.specs.Sums.{zero64}
 use Rattle.request_text.specs.Request.{Requested, answerOf, requestOf}
 use Rattle.request_text.specs.declared.Request.{Request}
 use Rattle.request_text.specs.declared.Request.the-variants.{Read, ListLength, Fault}
-use Rattle.request_text.proofs.Found.{Within, read-within}
+use Rattle.layout.proofs.Found.{Within}
+use Rattle.request_text.proofs.Gives.{read-within}
 use Rattle.answer_text.specs.Answer.{refusedText}
 use Rattle.grouping_text.specs.Program.{bookText, textFor, textOf, programOf}
 

@@ -8,8 +8,10 @@ use lib.IntN.{ℤ, pos, negsuc}
 use Rattle.lists.specs.Lists.{listed, grid}
 use Rattle.refusals.specs.Table.{Refusal}
 use Rattle.intake.specs.Intake.{million, intakeOf}
-use Rattle.words.specs.Words.{wordFrom, sizeFrom, sameNumbers, countsBy}
-use Rattle.words.specs.declared.Counts.{Counts}
+use Rattle.words.specs.Words.{wordFrom, sizeFrom}
+use Rattle.compared.specs.Compared.{sameNumbers}
+use Rattle.counts.specs.Counting.{countsBy}
+use Rattle.counts.specs.declared.Counts.{Counts}
 use Rattle.intake_cases.specs.declared.Case.{Case}
 
 -- the number that a word of 64 bits is in two's complement; `negsuc k` is -(k + 1)

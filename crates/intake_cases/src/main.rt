@@ -10,8 +10,8 @@ ghost use mathlib.Core.List.{[], _∷_};
 ghost use lib.ListN.{length};
 ghost use Rattle.intake.specs.Intake.{refusalOf, intakeOf};
 ghost use Rattle.intake_cases.specs.Cases.{signedOf, signedFrom, caseAt, sameAnswer, rightCase, countsIn, madeCell, madeBook};
+use counts::Counts;
 use intake::Intake;
-use words::Counts;
 
 // The sizes of a case, the word at which its expected answer starts, and the one at which the next case does.
 struct Case {
@@ -84,7 +84,7 @@ fn same_answer(text: &[u8], expected: usize, a: Intake) -> bool
     ensures { λ r. ⌜ r ≡ sameAnswer (now (text .entry)) expected (refusalOf a) ⌝ }
 {
     let answer = answer_of(a);
-    words::same_numbers(text, expected, &answer)
+    compared::same_numbers(text, expected, &answer)
 }
 
 // Gives `right` back. If it is false, prints these two, as expected and as found.
@@ -92,7 +92,7 @@ fn shown_answer(right: bool, text: &[u8], expected: usize, a: Intake) -> bool
     ensures { λ r. ⌜ r ≡ right ⌝ }
 {
     let answer = answer_of(a);
-    words::shown(right, text, expected, &answer)
+    counts::shown(right, text, expected, &answer)
 }
 
 // Reads the case's cells into a list of their count, and checks them as a book.
@@ -129,7 +129,7 @@ fn run(text: &[u8]) -> Counts
     while at < words {
         let c = read_case(text, at);
         let right = right_case(text, at, c);
-        counts = words::counted(counts, right, 0, at, c.next, words);
+        counts = counts::counted(counts, right, 0, at, c.next, words);
         at = c.next;
     }
     counts
@@ -187,7 +187,7 @@ fn main() {
     let mut text = words::text_buffer();
     let n = io::read_full(0, &mut text);
     let counts = run(&text[..n]);
-    words::summary(counts, n, text.len());
+    counts::summary(counts, n, text.len());
     print_made(256, made_answer(256));
     print_made(257, made_answer(257));
 }

@@ -5,7 +5,8 @@ use mathlib.Core.Bool.{Bool}
 use mathlib.Core.List.{List}
 use lib.ListN.{replicate}
 use lib.Ieee.{Float}
-use Rattle.words.specs.Words.{doublesFrom, wordsFrom, seven}
+use Rattle.words.specs.Words.{doublesFrom, wordsFrom}
+use Rattle.compared.specs.Compared.{seven}
 use Rattle.replay.specs.declared.Case.{Case}
 use Rattle.replay.specs.Cases.{rightLeaf, leafOf, rightLists, rightCase}
 

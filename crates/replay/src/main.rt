@@ -14,10 +14,11 @@ ghost use mathlib.Core.Path.{_≡_};
 ghost use mathlib.Core.List.{[], _∷_};
 ghost use lib.ListN.{length, take, replicate};
 ghost use Rattle.kmeans_answers.specs.Answers.{refusalOf, readOf};
-ghost use Rattle.words.specs.Words.{seven, doublesFrom, wordsFrom};
+ghost use Rattle.words.specs.Words.{doublesFrom, wordsFrom};
+ghost use Rattle.compared.specs.Compared.{seven};
 ghost use Rattle.replay.specs.Cases.{caseAt, leafOf, sameAnswer, rightLeaf, rightLists, rightCase, countsIn};
+use counts::Counts;
 use kmeans_answers::Kmeans;
-use words::Counts;
 
 // The sizes of a case, the word at which its expected answer starts, and the one at which the next case does.
 struct Case {
@@ -154,7 +155,7 @@ fn same_answer(text: &[u8], expected: usize, a: Kmeans) -> bool
     ensures { λ r. ⌜ r ≡ sameAnswer (now (text .entry)) expected (refusalOf a) (readOf a) ⌝ }
 {
     let answer = answer_of(a);
-    words::same_numbers(text, expected, &answer)
+    compared::same_numbers(text, expected, &answer)
 }
 
 // Gives `right` back. If it is false, prints these three, as expected and as found.
@@ -162,7 +163,7 @@ fn shown_answer(right: bool, text: &[u8], expected: usize, a: Kmeans) -> bool
     ensures { λ r. ⌜ r ≡ right ⌝ }
 {
     let answer = answer_of(a);
-    words::shown(right, text, expected, &answer)
+    counts::shown(right, text, expected, &answer)
 }
 
 // Whether a leaf's answer and the lists that it left are as recorded.
@@ -186,11 +187,11 @@ fn same_leaf(
     if !same_answer(text, c.expected, a) {
         return false;
     }
-    if !words::same_numbers(text, c.expected + 3, out) {
+    if !compared::same_numbers(text, c.expected + 3, out) {
         return false;
     }
-    let names = words::names_wiped(kmeans_answers::number_of(a), c.n);
-    words::left_lists(names, floats, numbers)
+    let names = compared::names_wiped(kmeans_answers::number_of(a), c.n);
+    compared::left_lists(names, floats, numbers)
 }
 
 // Runs a leaf, and compares what it answers and leaves.
@@ -270,7 +271,7 @@ fn run(text: &[u8]) -> Counts
     while at < words {
         let c = read_case(text, at);
         let right = right_case(text, at, c);
-        counts = words::counted(counts, right, c.leaf, at, c.next, words);
+        counts = counts::counted(counts, right, c.leaf, at, c.next, words);
         at = c.next;
     }
     counts
@@ -280,5 +281,5 @@ fn main() {
     let mut text = words::text_buffer();
     let n = io::read_full(0, &mut text);
     let counts = run(&text[..n]);
-    words::summary(counts, n, text.len());
+    counts::summary(counts, n, text.len());
 }

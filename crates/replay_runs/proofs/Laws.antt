@@ -5,7 +5,8 @@ use mathlib.Core.Bool.{Bool}
 use mathlib.Core.List.{List}
 use lib.ListN.{replicate}
 use lib.Ieee.{Float}
-use Rattle.words.specs.Words.{doublesFrom, wordsFrom, seven}
+use Rattle.words.specs.Words.{doublesFrom, wordsFrom}
+use Rattle.compared.specs.Compared.{seven}
 use Rattle.onc.specs.Onc.{groupOf}
 use Rattle.replay_runs.specs.declared.Case.{Case}
 use Rattle.replay_runs.specs.Runs.{rightRun, rightLists, rightCase}

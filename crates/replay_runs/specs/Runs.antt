@@ -4,11 +4,13 @@ use mathlib.Core.Bool.{Bool, _&&_}
 use mathlib.Core.List.{List, [], _∷_}
 use lib.ListN.{length, replicate}
 use lib.Ieee.{Float}
-use Rattle.words.specs.Words.{wordFrom, sizeFrom, doublesFrom, wordsFrom, sameNumbers, sameDoubles, seven, namesWiped, leftLists, countsBy}
+use Rattle.words.specs.Words.{wordFrom, sizeFrom, doublesFrom, wordsFrom}
+use Rattle.compared.specs.Compared.{sameNumbers, sameDoubles, seven, namesWiped, leftLists}
+use Rattle.counts.specs.Counting.{countsBy}
 use Rattle.onc_answers.specs.Answers.{Answer}
 use Rattle.onc_run.specs.Run.{Lists, Outcome}
 use Rattle.onc.specs.Onc.{groupOf}
-use Rattle.words.specs.declared.Counts.{Counts}
+use Rattle.counts.specs.declared.Counts.{Counts}
 use Rattle.replay_runs.specs.declared.Case.{Case}
 
 -- the case at `at`: twelve words, the cells, the draws, and then the expected answer

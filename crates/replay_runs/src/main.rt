@@ -16,10 +16,11 @@ ghost use mathlib.Core.List.{[], _∷_};
 ghost use lib.ListN.{length, take, replicate};
 ghost use Rattle.onc_answers.specs.Answers.{answerOf};
 ghost use Rattle.onc.specs.Onc.{groupOf};
-ghost use Rattle.words.specs.Words.{seven, doublesFrom, wordsFrom};
+ghost use Rattle.words.specs.Words.{doublesFrom, wordsFrom};
+ghost use Rattle.compared.specs.Compared.{seven};
 ghost use Rattle.replay_runs.specs.Runs.{caseAt, sameAnswer, sameOutputs, rightRun, rightLists, rightCase, countsIn};
+use counts::Counts;
 use onc_answers::Onc;
-use words::Counts;
 
 // The sizes of a case, the word at which its expected answer starts, and the one at which the next case does.
 struct Case {
@@ -156,7 +157,7 @@ fn same_answer(text: &[u8], expected: usize, a: Onc) -> bool
     ensures { λ r. ⌜ r ≡ sameAnswer (now (text .entry)) expected (answerOf a) ⌝ }
 {
     let answer = answer_of(a);
-    words::same_numbers(text, expected, &answer)
+    compared::same_numbers(text, expected, &answer)
 }
 
 // Gives `right` back. If it is false, prints these four, as expected and as found.
@@ -164,7 +165,7 @@ fn shown_answer(right: bool, text: &[u8], expected: usize, a: Onc) -> bool
     ensures { λ r. ⌜ r ≡ right ⌝ }
 {
     let answer = answer_of(a);
-    words::shown(right, text, expected, &answer)
+    counts::shown(right, text, expected, &answer)
 }
 
 // Whether the text has these outputs behind that, one after the other.
@@ -182,16 +183,16 @@ fn same_outputs(
     let order_at = c.expected + 4;
     let sizes_at = order_at + c.order;
     let scores_at = sizes_at + c.sizes;
-    if !words::same_numbers(text, order_at, order) {
+    if !compared::same_numbers(text, order_at, order) {
         return false;
     }
-    if !words::same_numbers(text, sizes_at, sizes) {
+    if !compared::same_numbers(text, sizes_at, sizes) {
         return false;
     }
-    if !words::same_doubles(text, scores_at, scores) {
+    if !compared::same_doubles(text, scores_at, scores) {
         return false;
     }
-    words::same_doubles(text, scores_at + c.scores, ordered)
+    compared::same_doubles(text, scores_at + c.scores, ordered)
 }
 
 // Whether a run's answer and the lists that it left are as recorded.
@@ -225,8 +226,8 @@ fn same_run(
     if !same_outputs(text, c, order, sizes, scores, ordered) {
         return false;
     }
-    let names = words::names_wiped(onc_answers::number_of(a), c.rows);
-    words::left_lists(names, floats, numbers)
+    let names = compared::names_wiped(onc_answers::number_of(a), c.rows);
+    compared::left_lists(names, floats, numbers)
 }
 
 // Makes the call, and compares what it answers and leaves.
@@ -362,7 +363,7 @@ fn run(text: &[u8]) -> Counts
     while at < words {
         let c = read_case(text, at);
         let right = right_case(text, at, c);
-        counts = words::counted(counts, right, c.kind, at, c.next, words);
+        counts = counts::counted(counts, right, c.kind, at, c.next, words);
         at = c.next;
     }
     counts
@@ -372,5 +373,5 @@ fn main() {
     let mut text = text_buffer();
     let n = io::read_full(0, &mut text);
     let counts = run(&text[..n]);
-    words::summary(counts, n, text.len());
+    counts::summary(counts, n, text.len());
 }

@@ -3,13 +3,13 @@ use mathlib.Core.Path.{_∙_, _≡_, ap, refl}
 use Prim.Native.Nat.{ℕ}
 use lib.Ieee.{Float}
 use mathlib.Core.List.{List}
-use Rattle.request_text.specs.declared.Layout.the-variants.{NotFound, Found}
+use Rattle.layout.specs.declared.Layout.the-variants.{NotFound, Found}
 use Rattle.refusals.specs.Table.{refused}
 use Rattle.request_text.specs.Request.{Requested, kept, requestOf}
 use Rattle.request_text.specs.Claim.{InLayout, LayoutClaim}
-use Rattle.request_text.specs.Layout.{cellForm, drawForm, layoutOf, valueOf}
-use Rattle.request_text.specs.declared.Layout.{Layout}
-use Rattle.request_text.proofs.Found.{fault-gives}
+use Rattle.layout.specs.Layout.{cellForm, drawForm, layoutOf, valueOf}
+use Rattle.layout.specs.declared.Layout.{Layout}
+use Rattle.request_text.proofs.Gives.{fault-gives}
 use Rattle.request_text.proofs.Sound.{sound, sound-limits, widthAt}
 use Rattle.request_text.proofs.Complete.{complete}
 use Rattle.request_text.proofs.Lengths.{too-long}

@@ -21,17 +21,17 @@ use Rattle.digits.proofs.Lines.{length-more}
 use Rattle.digits.proofs.RoundTrip.{byte-behind, first-byte, number-back, run-back}
 use Rattle.digits.proofs.Places.{first-some, one-place, places-hold, places-short, places-some, width-ten}
 use Rattle.digits.proofs.Scan.{newline-no-digit, space-no-digit, stop-no-digit}
-use Rattle.request_text.specs.Layout.{cellForm, drawForm, fieldOk, headOf, layoutOf, lineAt, listsOf, plain, smallAt, startOf, valueOf}
+use Rattle.layout.specs.Layout.{cellForm, drawForm, fieldOk, headOf, layoutOf, lineAt, listsOf, plain, smallAt, startOf, valueOf}
 use Rattle.request_text.specs.Request.{readAs, requestOf}
 use Rattle.request_text.specs.Written.{requestText}
-use Rattle.request_text.specs.declared.Form.{Form}
-use Rattle.request_text.specs.declared.Small.the-variants.{Number}
-use Rattle.request_text.specs.declared.Line.the-variants.{Ends}
-use Rattle.request_text.specs.declared.Head.the-variants.{Sizes}
-use Rattle.request_text.specs.declared.Layout.the-variants.{Found}
+use Rattle.layout.specs.declared.Form.{Form}
+use Rattle.layout.specs.declared.Small.the-variants.{Number}
+use Rattle.layout.specs.declared.Line.the-variants.{Ends}
+use Rattle.layout.specs.declared.Head.the-variants.{Sizes}
+use Rattle.layout.specs.declared.Layout.the-variants.{Found}
 use Rattle.request_text.specs.Claim.{Limits}
-use Rattle.request_text.proofs.Fields.{field-right, line-empty, line-ends, small-read, start-more, value-is}
-use Rattle.request_text.proofs.Found.{as-same, found-gives}
+use Rattle.layout.proofs.Fields.{field-right, line-empty, line-ends, small-read, start-more, value-is}
+use Rattle.request_text.proofs.Gives.{as-same, found-gives}
 
 -- ---- a line
 

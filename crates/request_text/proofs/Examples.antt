@@ -6,7 +6,7 @@ use lib.Ieee.{nan, ofBits, ofInt}
 use Rattle.lists.specs.Lists.{listed}
 use Rattle.lists.specs.Sums.{allTo, counted, zero64}
 use Rattle.digits.specs.Digits.{digitOf, runOf, spelled}
-use Rattle.request_text.specs.Layout.{plain, smallAt, headOf, startOf, fieldOk, lineAt, listsOf, layoutOf}
+use Rattle.layout.specs.Layout.{plain, smallAt, headOf, startOf, fieldOk, lineAt, listsOf, layoutOf}
 use Rattle.refusals.specs.Table.{refused}
 use Rattle.request_text.specs.Request.{kept, readAs, requestOf, sizesRead}
 

@@ -9,12 +9,12 @@ use Rattle.digits.specs.Lines.{lineOf}
 use Rattle.digits.proofs.Numerals.{length-digits}
 use Rattle.digits.proofs.Places.{places-short, width-ten}
 use Rattle.digits.proofs.Lines.{length-line}
-use Rattle.request_text.specs.Layout.{cellForm, drawForm, layoutOf, valueOf}
+use Rattle.layout.specs.Layout.{cellForm, drawForm, layoutOf, valueOf}
 use Rattle.request_text.specs.Written.{requestText}
 use Rattle.request_text.specs.Claim.{Limits}
-use Rattle.request_text.specs.declared.Layout.{Layout}
-use Rattle.request_text.specs.declared.Layout.the-variants.{Found, NotFound}
-use Rattle.request_text.proofs.Found.{few-cells}
+use Rattle.layout.specs.declared.Layout.{Layout}
+use Rattle.layout.specs.declared.Layout.the-variants.{Found, NotFound}
+use Rattle.layout.proofs.Found.{few-cells}
 use Rattle.request_text.proofs.Sound.{sound, sound-limits, widthAt}
 
 length-decimal : (j v : ℕ) → v < 10 ^ suc j → j < 20 → length (numeral 10 v) ≤ suc j

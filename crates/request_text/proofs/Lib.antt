@@ -1,6 +1,5 @@
--- Laws of the layout, and the claim of specs/Claim.
-pub mod Fields
-pub mod Found
+-- Laws of what a text gives, and the claim of specs/Claim.
+pub mod Gives
 pub mod Complete
 pub mod Sound
 pub mod Lengths

@@ -20,16 +20,16 @@ use Rattle.lists.proofs.Tests.{both, impossible}
 use Rattle.digits.proofs.Scan.{in-text, run-digits, run-le, spelled-lt, stop-positive}
 use Rattle.digits.proofs.Places.{one-place, places-exact, some-digit, spelled-low}
 use Rattle.digits.proofs.RoundTrip.{run-off}
-use Rattle.request_text.specs.Layout.{cellForm, digitsAt, drawForm, fieldOk, headOf, layoutOf, lineAt, listsOf, plain, smallAt, startOf, valueOf}
+use Rattle.layout.specs.Layout.{cellForm, digitsAt, drawForm, fieldOk, headOf, layoutOf, lineAt, listsOf, plain, smallAt, startOf, valueOf}
 use Rattle.request_text.specs.Written.{requestText}
-use Rattle.request_text.specs.declared.Form.{Form}
-use Rattle.request_text.specs.declared.Small.the-variants.{Number, NoNumber}
-use Rattle.request_text.specs.declared.Line.the-variants.{NoLine, Ends}
-use Rattle.request_text.specs.declared.Head.the-variants.{Sizes}
-use Rattle.request_text.specs.declared.Layout.the-variants.{NotFound, Found}
+use Rattle.layout.specs.declared.Form.{Form}
+use Rattle.layout.specs.declared.Small.the-variants.{Number, NoNumber}
+use Rattle.layout.specs.declared.Line.the-variants.{NoLine, Ends}
+use Rattle.layout.specs.declared.Head.the-variants.{Sizes}
+use Rattle.layout.specs.declared.Layout.the-variants.{NotFound, Found}
 use Rattle.request_text.specs.Claim.{Limits}
-use Rattle.request_text.proofs.Fields.{field-ends}
-use Rattle.request_text.proofs.Found.{accepted, clash, head-taken, line-right, line-taken, small-taken}
+use Rattle.layout.proofs.Fields.{field-ends}
+use Rattle.layout.proofs.Found.{accepted, clash, head-taken, line-right, line-taken, small-taken}
 
 -- ---- a line
 

@@ -8,9 +8,9 @@ use lib.Ieee.{Float}
 use Rattle.lists.specs.Lists.{listed}
 use Rattle.bits.specs.Bits.{doubleOf}
 use Rattle.refusals.specs.Table.{Refusal, none, refused}
-use Rattle.request_text.specs.Layout.{layoutOf, cellForm, drawForm, valueOf}
-use Rattle.request_text.specs.declared.Layout.{Layout}
-use Rattle.request_text.specs.declared.Layout.the-variants.{Found, NotFound}
+use Rattle.layout.specs.Layout.{layoutOf, cellForm, drawForm, valueOf}
+use Rattle.layout.specs.declared.Layout.{Layout}
+use Rattle.layout.specs.declared.Layout.the-variants.{Found, NotFound}
 use Rattle.request_text.specs.declared.Request.{Request}
 use Rattle.request_text.specs.declared.Request.the-variants.{Read, ListLength, Fault}
 

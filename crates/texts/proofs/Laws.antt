@@ -8,8 +8,9 @@ use lib.ListN.{length, take}
 use Rattle.lists.specs.Lists.{part}
 use Rattle.lists.proofs.Parts.{tail-is}
 use Rattle.words.specs.Words.{sizeFrom}
-use Rattle.answer_text.specs.declared.Written.{Written}
-use Rattle.answer_text.specs.Answer.{room, refusalFits, refusalOf, bytesOf, Writing, writtenOf}
+use Rattle.writing.specs.declared.Written.{Written}
+use Rattle.writing.specs.Answers.{refusalOf, bytesOf}
+use Rattle.answer_text.specs.Answer.{room, refusalFits, Writing, writtenOf}
 use Rattle.answer_text.proofs.Front.{in-front, refusal-fits}
 use Rattle.grouping_text.specs.Program.{programOf}
 use Rattle.texts.specs.declared.Case.{Case}

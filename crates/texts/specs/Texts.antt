@@ -6,9 +6,10 @@ use lib.Dec.{eqb}
 use lib.ListN.{length, drop}
 use Rattle.lists.specs.Lists.{numbers, part}
 use Rattle.lists.specs.Sums.{allTo}
-use Rattle.words.specs.Words.{sizeFrom, countsBy}
+use Rattle.words.specs.Words.{sizeFrom}
+use Rattle.counts.specs.Counting.{countsBy}
 use Rattle.grouping_text.specs.Program.{programOf}
-use Rattle.words.specs.declared.Counts.{Counts}
+use Rattle.counts.specs.declared.Counts.{Counts}
 use Rattle.texts.specs.declared.Case.{Case}
 
 -- where the text of the case at byte `at` starts: behind the two lines of lengths, and not behind the end

@@ -9,7 +9,7 @@ ghost use Prim.Native.Nat.{_+_, _<_, _≤_};
 ghost use mathlib.Core.Path.{_≡_};
 ghost use lib.ListN.{length};
 ghost use Rattle.texts.specs.Texts.{firstOf, caseAt, sameBytes, rightText, rightCase, countsIn};
-use words::Counts;
+use counts::Counts;
 
 // A file's bytes, by their count alone: a literal array would stand in every goal, cell by cell.
 fn text_buffer() -> [u8; 524288]
@@ -76,9 +76,9 @@ fn right_in(text: &[u8], answer: &[u8], out: &mut [u8]) -> bool
     ensures { λ r. ⌜ r ≡ rightText (now (text .entry)) (now (answer .entry)) ⌝ }
 {
     let w = grouping_text::answer_to(text, out);
-    let n = answer_text::bytes_of(w);
+    let n = writing::bytes_of(w);
     let right = same_bytes(&out[..n], answer);
-    words::shown_text(right, answer, &out[..n])
+    counts::shown_text(right, answer, &out[..n])
 }
 
 fn right_text(text: &[u8], answer: &[u8]) -> bool
@@ -114,7 +114,7 @@ fn run(cases: &[u8]) -> Counts
         let c = read_case(cases, at);
         let right = right_case(cases, c);
         let next = c.first + c.text + c.answer;
-        counts = words::counted(counts, right, 0, at, next, n);
+        counts = counts::counted(counts, right, 0, at, next, n);
         at = next;
     }
     counts
@@ -124,5 +124,5 @@ fn main() {
     let mut cases = text_buffer();
     let n = io::read_full(0, &mut cases);
     let counts = run(&cases[..n]);
-    words::summary(counts, n, cases.len());
+    counts::summary(counts, n, cases.len());
 }

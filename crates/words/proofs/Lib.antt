@@ -1,5 +1,3 @@
--- Laws of the words of a text, of buffers that they are read into, of the zero fronts, and of counting the cases of a text.
+-- Laws of the words of a text, and of buffers that they are read into.
 pub mod Values
 pub mod Buffers
-pub mod Wiped
-pub mod Counting

@@ -1,2 +1,2 @@
--- The words of a text, what they say, what the lists of a call must hold afterwards, and the count of cases (Words.antt).
+-- The words of a text, and what they say (Words.antt).
 pub mod Words

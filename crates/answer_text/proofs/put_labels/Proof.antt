@@ -2,7 +2,7 @@ use Prim.Native.Nat.{_-_}
 use mathlib.Core.Path.{refl}
 use native.Mathlib.Omega.{arith}
 use borrow.Author.Needs.{needs}
-use Rattle.answer_text.proofs.Stores.{wrote-as}
+use Rattle.writing.proofs.Stores.{wrote-as}
 use Rattle.answer_text.proofs.Lines.{Line, line-ends, line-more, line-empty, line-room, line-starts}
 use Rattle.answer_text.proofs.put_labels.Statement.{statement}
 use Rattle.answer_text.proofs.put_labels.Tie as tie

@@ -5,7 +5,7 @@ use native.Mathlib.Omega.{arith}
 use lib.ListN.{length-map}
 use borrow.Author.Needs.{needs}
 use Rattle.bits.specs.Bits.{bitsOf}
-use Rattle.answer_text.proofs.Stores.{wrote-as}
+use Rattle.writing.proofs.Stores.{wrote-as}
 use Rattle.answer_text.proofs.Lines.{Line, line-ends, line-more, line-empty, line-room, line-starts, score-at}
 use Rattle.answer_text.proofs.put_scores.Statement.{statement}
 use Rattle.answer_text.proofs.put_scores.Tie as tie

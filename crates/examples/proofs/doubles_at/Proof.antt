@@ -1,7 +1,7 @@
 use mathlib.Core.Path.{sym}
 use native.Mathlib.Omega.{arith}
 use lib.Seq.{length-take-le}
-use Rattle.words.specs.Words.{seven}
+use Rattle.compared.specs.Compared.{seven}
 use Rattle.lists.proofs.Refilled.{buffer-length}
 use Rattle.words.proofs.Buffers.{read-front}
 use Rattle.examples.proofs.doubles_at.Statement.{statement}

@@ -1,7 +1,7 @@
 use mathlib.Core.Path.{sym}
 use native.Mathlib.Omega.{arith}
 use lib.Seq.{length-take-le}
-use Rattle.words.specs.Words.{seven}
+use Rattle.compared.specs.Compared.{seven}
 use Rattle.lists.proofs.Refilled.{buffer-front, buffer-length}
 use Rattle.examples.proofs.Laws.{lent}
 use Rattle.examples.proofs.right_lent.Statement.{statement}

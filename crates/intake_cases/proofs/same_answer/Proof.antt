@@ -2,7 +2,7 @@ use mathlib.Core.Path.{sym, _∙_, ap}
 use mathlib.Core.List.{List}
 use Prim.Native.Nat.{ℕ}
 use lib.ListN.{length}
-use Rattle.words.specs.Words.{sameNumbers}
+use Rattle.compared.specs.Compared.{sameNumbers}
 use Rattle.intake_cases.specs.Cases.{sameAnswer}
 use Rattle.intake_cases.proofs.same_answer.Statement.{statement}
 use Rattle.intake_cases.proofs.same_answer.Tie as tie

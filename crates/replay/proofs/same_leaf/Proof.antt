@@ -2,7 +2,7 @@ use Prim.Native.Nat.{ℕ}
 use mathlib.Core.Path.{_∙_, ap}
 use native.Mathlib.Omega.{arith}
 use borrow.Author.Tests.{not-false, not-true}
-use Rattle.words.specs.Words.{leftLists, namesWiped}
+use Rattle.compared.specs.Compared.{leftLists, namesWiped}
 use Rattle.words.proofs.Values.{first-fails, first-passes}
 use Rattle.replay.specs.Cases.{rightLeaf}
 use Rattle.replay.proofs.same_leaf.Statement.{statement}

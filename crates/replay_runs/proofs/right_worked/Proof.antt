@@ -2,7 +2,7 @@ use mathlib.Core.Path.{sym}
 use native.Mathlib.Omega.{arith}
 use lib.Seq.{length-take-le}
 use borrow.Author.Needs.{needs}
-use Rattle.words.specs.Words.{seven}
+use Rattle.compared.specs.Compared.{seven}
 use Rattle.lists.proofs.Refilled.{buffer-front, buffer-length}
 use Rattle.replay_runs.proofs.Laws.{lent-working}
 use Rattle.replay_runs.proofs.right_worked.Statement.{statement}

@@ -2,7 +2,7 @@ use Prim.Native.Nat.{_-_, _/_}
 use mathlib.Core.Path.{_≡_, refl}
 use native.Mathlib.Omega.{arith}
 use lib.ListN.{length}
-use Rattle.words.proofs.Counting.{Counted, counted-none, counted-more, counted-all}
+use Rattle.counts.proofs.Counting.{Counted, counted-none, counted-more, counted-all}
 use Rattle.replay_runs.specs.declared.Case.{Case}
 use Rattle.replay_runs.specs.Runs.{caseAt, rightCase, countsIn}
 use Rattle.replay_runs.proofs.run.Statement.{statement}

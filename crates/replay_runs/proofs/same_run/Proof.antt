@@ -1,7 +1,7 @@
 use Prim.Native.Nat.{ℕ}
 use mathlib.Core.Path.{_∙_, ap}
 use borrow.Author.Tests.{not-false, not-true}
-use Rattle.words.specs.Words.{leftLists, namesWiped}
+use Rattle.compared.specs.Compared.{leftLists, namesWiped}
 use Rattle.words.proofs.Values.{first-fails, first-passes}
 use Rattle.replay_runs.specs.Runs.{rightRun}
 use Rattle.replay_runs.proofs.same_run.Statement.{statement}

@@ -7,9 +7,9 @@ use borrow.Author.Needs.{needs}
 use Rattle.bits.specs.Bits.{doubleOf}
 use Rattle.lists.specs.Lists.{listed}
 use Rattle.lists.proofs.Listed.{writes, writes-done, writes-one}
-use Rattle.request_text.specs.Layout.{startOf, valueOf}
-use Rattle.request_text.proofs.Fields.{field-inside, start-more, start-none, value-is}
-use Rattle.request_text.specs.declared.Form.{Form}
+use Rattle.layout.specs.Layout.{startOf, valueOf}
+use Rattle.layout.proofs.Fields.{field-inside, start-more, start-none, value-is}
+use Rattle.layout.specs.declared.Form.{Form}
 use Rattle.request_text.proofs.fill_cells.Statement.{statement}
 use Rattle.request_text.proofs.fill_cells.Tie as tie
 

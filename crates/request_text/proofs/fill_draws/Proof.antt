@@ -4,8 +4,8 @@ use native.Mathlib.Omega.{arith}
 use lib.ListN.{length, length-set}
 use borrow.Author.Needs.{needs}
 use Rattle.lists.proofs.Listed.{writes, writes-done, writes-one}
-use Rattle.request_text.specs.Layout.{startOf, valueOf}
-use Rattle.request_text.proofs.Fields.{field-inside, start-more, start-none, value-is}
+use Rattle.layout.specs.Layout.{startOf, valueOf}
+use Rattle.layout.proofs.Fields.{field-inside, start-more, start-none, value-is}
 use Rattle.request_text.proofs.fill_draws.Statement.{statement}
 use Rattle.request_text.proofs.fill_draws.Tie as tie
 

@@ -2,9 +2,10 @@ use mathlib.Core.Path.{_∙_, _≡_, sym}
 use native.Mathlib.Omega.{arith}
 use lib.Seq.{length-take-le}
 use borrow.Author.Needs.{needs}
-use Rattle.request_text.specs.Layout.{cellForm, drawForm, layoutOf}
-use Rattle.request_text.proofs.Found.{accepted, as-few-cells, as-few-draws, as-lent, fault-gives, few-cells, found-gives, read-all}
-use Rattle.request_text.specs.declared.Layout.the-variants.{Found}
+use Rattle.layout.specs.Layout.{cellForm, drawForm, layoutOf}
+use Rattle.layout.proofs.Found.{accepted, few-cells}
+use Rattle.request_text.proofs.Gives.{as-few-cells, as-few-draws, as-lent, fault-gives, found-gives, read-all}
+use Rattle.layout.specs.declared.Layout.the-variants.{Found}
 use Rattle.request_text.proofs.read_request.Statement.{statement}
 use Rattle.request_text.proofs.read_request.Tie as tie
 

@@ -2,7 +2,7 @@ use Prim.Native.Nat.{ℕ, _-_}
 use mathlib.Core.Path.{_≡_, refl}
 use native.Mathlib.Omega.{arith}
 use lib.ListN.{length}
-use Rattle.words.proofs.Counting.{Counted, counted-none, counted-more, counted-all}
+use Rattle.counts.proofs.Counting.{Counted, counted-none, counted-more, counted-all}
 use Rattle.texts.specs.declared.Case.{Case}
 use Rattle.texts.specs.Texts.{caseAt, endOf, rightCase, countsIn}
 use Rattle.texts.proofs.run.Statement.{statement}

@@ -1,0 +1,2 @@
+-- Laws of the zero fronts.
+pub mod Wiped

@@ -1,0 +1,2 @@
+-- What the lists of a call must hold afterwards (Compared.antt).
+pub mod Compared

@@ -1,0 +1,2 @@
+-- Laws of counting the cases of a text.
+pub mod Counting

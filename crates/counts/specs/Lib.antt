@@ -1,0 +1,2 @@
+-- The count of the cases of a text (Counting.antt).
+pub mod Counting

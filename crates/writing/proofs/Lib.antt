@@ -1,0 +1,3 @@
+-- Laws of bytes that are stored one after another, and of counting digits.
+pub mod Stores
+pub mod Counting
