@@ -1,12 +1,11 @@
--- The answer in a list of three numbers, and what a call for C gives and leaves.
+-- What a call for C gives and leaves, with its answer in a list of three numbers.
 use Prim.Native.Nat.{ℕ}
-use mathlib.Core.Path.{_≡_, refl, _∙_, ap}
+use mathlib.Core.Path.{_≡_, ap}
 use mathlib.Core.Bool.{false, cond}
 use mathlib.Core.List.{List, [], _∷_}
-use native.Mathlib.Omega.{arith}
 use borrow.Author.Tests.{eq-eqb}
 use lib.Dec.{eqb}
-use lib.ListN.{length, set}
+use lib.ListN.{length}
 use lib.Ieee.{Float}
 use Rattle.lists.proofs.Tests.{impossible}
 use Rattle.refusals.specs.Table.{refusal}
@@ -16,16 +15,6 @@ use Rattle.kmeans_answers.specs.Answers.{numberOf, placeOf, refusalOf, readOf}
 use Rattle.kmeans_answers.specs.Leaf.{Leaf}
 use Rattle.reports.proofs.Written.{places-are, refused-as}
 use Rattle.harness_exports.specs.Reported.{reportedOf}
-
-three : (xs : List ℕ) (a b c : ℕ) → length xs ≡ 3 → set (set (set xs 0 a) 1 b) 2 c ≡ a ∷ b ∷ c ∷ []
-three [] a b c h = absurd (omega arith)
-three (x ∷ []) a b c h = absurd (omega arith)
-three (x ∷ y ∷ []) a b c h = absurd (omega arith)
-three (x ∷ y ∷ z ∷ []) a b c h = refl
-three (x ∷ y ∷ z ∷ u ∷ us) a b c h = absurd (omega arith)
-
-pub three-written : (xs : List ℕ) {a b c n p r : ℕ} → length xs ≡ 3 → a ≡ n → b ≡ p → c ≡ r → set (set (set xs 0 a) 1 b) 2 c ≡ n ∷ p ∷ r ∷ []
-three-written xs {a} {b} {c} h e f g = three xs a b c h ∙ rw (e, f, g)
 
 -- the list for the answer has three places where it is not refused
 pub three-places : (cells n places : ℕ) {r : ℕ} → r ≡ cond (eqb places 3) 0 (refusal cells n n false 0 0 .number) → r ≡ 0 → places ≡ 3

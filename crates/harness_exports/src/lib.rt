@@ -1,14 +1,9 @@
 // What the harness alone calls, to compare and to time: the square root in its two forms, the k-means leaves, and the inner forms
 // by which a round runs. The inner forms have preconditions, and nothing tests what they ask.
 ghost use mathlib.Core.Path.{_≡_};
-ghost use mathlib.Core.Bool.{cond, false};
-ghost use mathlib.Core.List.{[], _∷_};
 ghost use Prim.Native.Nat.{ℕ, _<_, _≤_, _+_, _*_};
-ghost use lib.Dec.{eqb};
 ghost use lib.ListN.{length, take, drop};
 ghost use Rattle.sqrt.specs.Root.{root};
-ghost use Rattle.refusals.specs.Table.{refusal};
-ghost use Rattle.kmeans_answers.specs.Answers.{numberOf, placeOf, readOf};
 ghost use Rattle.kmeans_centres.specs.Leaves.{plusPlusLeaf};
 ghost use Rattle.kmeans_passes.specs.Leaves.{lloydLeaf};
 ghost use Rattle.kmeans.specs.Leaves.{labelsLeaf};
@@ -29,7 +24,6 @@ ghost use Rattle.scoring.specs.Scoring.{scoresOf, Prepared};
 ghost use Rattle.harness_exports.specs.Reported.{reportedOf};
 ghost use Rattle.harness_exports.specs.Next.{nextAfter};
 use clustering::Clustered;
-use kmeans_answers::Kmeans;
 use seeding::Seeded;
 
 #[no_mangle]
@@ -46,28 +40,6 @@ pub extern "C" fn onc_sqrt_by_digits(x: f64) -> f64
     sqrt::sqrt_by_digits(x)
 }
 
-// 0 where the list for the answer has three places; else the number by which the call is refused: 2, 4, 5 or 6.
-fn answer_refused(cells: usize, n: usize, places: usize) -> usize
-    ensures { λ r. ⌜ r ≡ cond (eqb places 3) 0 (refusal cells n n false 0 0 .number) ⌝ }
-{
-    if places == 3 {
-        return 0;
-    }
-    refusals::number_of(refusals::check(cells, n, n, false, 0, 0))
-}
-
-// The number, the place and the draws read, in a list of three; the number.
-fn report(a: Kmeans, answer: &mut [usize]) -> usize
-    requires { ⌜ length (now answer) ≡ 3 ⌝ }
-    ensures { λ r. ⌜ (r ≡ numberOf a) × (now (answer .exit) ≡ numberOf a ∷ placeOf a ∷ readOf a ∷ []) ⌝ }
-{
-    let number = kmeans_answers::number_of(a);
-    answer[0] = number;
-    answer[1] = kmeans_answers::place_of(a);
-    answer[2] = kmeans_answers::read_of(a);
-    number
-}
-
 #[no_mangle]
 pub extern "C" fn onc_kmeans_plus_plus(
     points: &[f64],
@@ -82,12 +54,12 @@ pub extern "C" fn onc_kmeans_plus_plus(
     ensures { λ r. ⌜ record { number = r; answer = now (answer .exit); out = now (centres .exit); floats = now (floats .exit); numbers = now (numbers .exit) }
         ≡ reportedOf (length (now (points .entry))) n (plusPlusLeaf (now (points .entry)) n k (now (draws .entry)) (now (centres .entry)) (now (floats .entry)) (now (numbers .entry))) (now (answer .entry)) (now (centres .entry)) (now (floats .entry)) (now (numbers .entry)) ⌝ }
 {
-    let refused = answer_refused(points.len(), n, answer.len());
+    let refused = reports::kmeans_refused(points.len(), n, answer.len());
     if refused != 0 {
         return refused;
     }
     let a = kmeans_centres::kmeans_plus_plus(points, n, k, draws, centres, floats, numbers);
-    report(a, answer)
+    reports::report_kmeans(a, answer)
 }
 
 #[no_mangle]
@@ -103,12 +75,12 @@ pub extern "C" fn onc_lloyd(
     ensures { λ r. ⌜ record { number = r; answer = now (answer .exit); out = now (labels .exit); floats = now (floats .exit); numbers = now (numbers .exit) }
         ≡ reportedOf (length (now (points .entry))) n (lloydLeaf (now (points .entry)) n (now (centres .entry)) (now (labels .entry)) (now (floats .entry)) (now (numbers .entry))) (now (answer .entry)) (now (labels .entry)) (now (floats .entry)) (now (numbers .entry)) ⌝ }
 {
-    let refused = answer_refused(points.len(), n, answer.len());
+    let refused = reports::kmeans_refused(points.len(), n, answer.len());
     if refused != 0 {
         return refused;
     }
     let a = kmeans_passes::lloyd(points, n, centres, labels, floats, numbers);
-    report(a, answer)
+    reports::report_kmeans(a, answer)
 }
 
 #[no_mangle]
@@ -125,12 +97,12 @@ pub extern "C" fn onc_kmeans_labels(
     ensures { λ r. ⌜ record { number = r; answer = now (answer .exit); out = now (labels .exit); floats = now (floats .exit); numbers = now (numbers .exit) }
         ≡ reportedOf (length (now (points .entry))) n (labelsLeaf (now (points .entry)) n k (now (draws .entry)) (now (labels .entry)) (now (floats .entry)) (now (numbers .entry))) (now (answer .entry)) (now (labels .entry)) (now (floats .entry)) (now (numbers .entry)) ⌝ }
 {
-    let refused = answer_refused(points.len(), n, answer.len());
+    let refused = reports::kmeans_refused(points.len(), n, answer.len());
     if refused != 0 {
         return refused;
     }
     let a = kmeans::kmeans_labels(points, n, k, draws, labels, floats, numbers);
-    report(a, answer)
+    reports::report_kmeans(a, answer)
 }
 
 // What k-means reads of the points, worked out once for every k. Inner form.

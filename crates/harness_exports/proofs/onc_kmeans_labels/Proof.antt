@@ -3,17 +3,17 @@ use Rattle.harness_exports.proofs.Reported.{refused-as-is, reported, th
 use Rattle.harness_exports.proofs.onc_kmeans_labels.Statement.{statement}
 use Rattle.harness_exports.proofs.onc_kmeans_labels.Tie as tie
 
-answer-refused-requires : tie.Need-answer-refused-requires
-answer-refused-requires c κs = search needs
+kmeans-refused-requires : tie.Need-kmeans-refused-requires
+kmeans-refused-requires c κs = search needs
 
 returns : tie.Need-returns
-returns c = refused-as-is _ _ _ _ _ _ _ (c .before .answer-refused .ensures) (c .if1 .taken)
+returns c = refused-as-is _ _ _ _ _ _ _ (c .before .kmeans-refused .ensures) (c .if1 .taken)
 
 kmeans-labels-requires : tie.Need-kmeans-labels-requires
 kmeans-labels-requires c κs = search needs
 
-report-requires : tie.Need-report-requires
-report-requires c κs = three-places _ _ _ (c .before .before .before .before .before .before .before .before .before .before .before .before .answer-refused .ensures) (c .before .before .before .before .before .before .before .before .before .before .before .if1 .left)
+report-kmeans-requires : tie.Need-report-kmeans-requires
+report-kmeans-requires c κs = three-places _ _ _ (c .before .before .before .before .before .before .before .before .before .before .before .before .kmeans-refused .ensures) (c .before .before .before .before .before .before .before .before .before .before .before .if1 .left)
 
 same-length : tie.Need-same-length
 same-length c = search needs
@@ -28,16 +28,16 @@ same-length-4 : tie.Need-same-length-4
 same-length-4 c = search needs
 
 returns-2 : tie.Need-returns-2
-returns-2 c = reported _ _ _ (c .before .before .before .before .before .before .before .before .before .before .before .before .before .before .before .before .before .before .before .before .before .before .args .answer .now) _ _ _ (c .before .before .before .before .before .before .before .before .before .before .kmeans-labels .result) (three-places _ _ _ (c .before .before .before .before .before .before .before .before .before .before .before .before .before .before .before .answer-refused .ensures) (c .before .before .before .before .before .before .before .before .before .before .before .before .before .before .if1 .left)) (c .before .before .before .before .before .before .before .before .before .before .kmeans-labels .ensures) (c .before .before .report .ensures .0) (c .before .before .report .ensures .1)
+returns-2 c = reported _ _ _ (c .before .before .before .before .before .before .before .before .before .before .before .before .before .before .before .before .before .before .before .before .before .before .args .answer .now) _ _ _ (c .before .before .before .before .before .before .before .before .before .before .kmeans-labels .result) (three-places _ _ _ (c .before .before .before .before .before .before .before .before .before .before .before .before .before .before .before .kmeans-refused .ensures) (c .before .before .before .before .before .before .before .before .before .before .before .before .before .before .if1 .left)) (c .before .before .before .before .before .before .before .before .before .before .kmeans-labels .ensures) (c .before .before .report-kmeans .ensures .0) (c .before .before .report-kmeans .ensures .1)
 
 pub onc-kmeans-labels-spec : {M : Type 1} → statement M
 onc-kmeans-labels-spec =
     tie.close
     (tie.spec
-    answer-refused-requires
+    kmeans-refused-requires
     returns
     kmeans-labels-requires
-    report-requires
+    report-kmeans-requires
     same-length
     same-length-2
     same-length-3

@@ -1,8 +1,8 @@
 use native.Mathlib.Omega.{arith}
 use borrow.Author.Needs.{needs}
-use Rattle.harness_exports.proofs.Reported.{three-written}
-use Rattle.harness_exports.proofs.report.Statement.{statement}
-use Rattle.harness_exports.proofs.report.Tie as tie
+use Rattle.reports.proofs.Written.{three-written}
+use Rattle.reports.proofs.report_kmeans.Statement.{statement}
+use Rattle.reports.proofs.report_kmeans.Tie as tie
 
 number-of-requires : tie.Need-number-of-requires
 number-of-requires c κs = tt
@@ -28,8 +28,8 @@ same-length c = search needs
 returns : tie.Need-returns
 returns c = (c .before .before .number-of .ensures, three-written (c .before .before .before .before .args .answer .now) (c .before .before .before .before .pre) (c .before .before .number-of .ensures) (c .before .place-of .ensures) (c .read-of .ensures))
 
-pub report-spec : {M : Type 1} → statement M
-report-spec =
+pub report-kmeans-spec : {M : Type 1} → statement M
+report-kmeans-spec =
     tie.close
     (tie.spec
     number-of-requires
