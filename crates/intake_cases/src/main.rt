@@ -8,10 +8,11 @@ ghost use Prim.Native.Nat.{_*_, _<_, _≤_};
 ghost use mathlib.Core.Path.{_≡_};
 ghost use mathlib.Core.List.{[], _∷_};
 ghost use lib.ListN.{length};
-ghost use Rattle.intake.specs.Intake.{refusalOf, intakeOf};
+ghost use Rattle.intake_answers.specs.Answers.{refusalOf};
+ghost use Rattle.intake.specs.Intake.{intakeOf};
 ghost use Rattle.intake_cases.specs.Cases.{signedOf, signedFrom, caseAt, sameAnswer, rightCase, countsIn, madeCell, madeBook};
 use counts::Counts;
-use intake::Intake;
+use intake_answers::Intake;
 
 // The sizes of a case, the word at which its expected answer starts, and the one at which the next case does.
 struct Case {
@@ -76,7 +77,7 @@ fn read_case(text: &[u8], at: usize) -> Case
 fn answer_of(a: Intake) -> [usize; 2]
     ensures { λ r. ⌜ r ≡ refusalOf a .number ∷ refusalOf a .place ∷ [] ⌝ }
 {
-    [intake::number_of(a), intake::place_of(a)]
+    [intake_answers::number_of(a), intake_answers::place_of(a)]
 }
 
 // Whether the text has this answer's number and place at `expected`.
@@ -177,9 +178,9 @@ fn made_answer(n: usize) -> Intake
 fn print_made(n: usize, a: Intake) {
     io::print_decimal(1, n as u64);
     io::write_all(1, b" names: ");
-    io::print_decimal(1, intake::number_of(a) as u64);
+    io::print_decimal(1, intake_answers::number_of(a) as u64);
     io::write_all(1, b" at ");
-    io::print_decimal(1, intake::place_of(a) as u64);
+    io::print_decimal(1, intake_answers::place_of(a) as u64);
     io::write_all(1, b"\n");
 }
 

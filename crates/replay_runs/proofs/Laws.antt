@@ -8,7 +8,7 @@ use lib.Ieee.{Float}
 use Rattle.words.specs.Words.{doublesFrom, wordsFrom}
 use Rattle.compared.specs.Compared.{seven}
 use Rattle.onc.specs.Onc.{groupOf}
-use Rattle.replay_runs.specs.declared.Case.{Case}
+use Rattle.run_cases.specs.declared.Case.{Case}
 use Rattle.replay_runs.specs.Runs.{rightRun, rightLists, rightCase}
 
 -- working lists of equal cells were lent

@@ -9,8 +9,8 @@ use lib.ListN.{length}
 use Rattle.lists.proofs.Tests.{impossible}
 use Rattle.refusals.specs.Table.{Refusal, refused}
 use Rattle.refusals.proofs.Laws.{accepted, unless-none}
-use Rattle.intake.specs.declared.Intake.{Intake}
-use Rattle.intake.specs.Intake.{numberOf, placeOf, refusalOf}
+use Rattle.intake_answers.specs.declared.Intake.{Intake}
+use Rattle.intake_answers.specs.Answers.{numberOf, placeOf, refusalOf}
 use Rattle.reports.proofs.Written.{places-are, refused-as}
 use Rattle.reports.specs.Book.{bookShape, bookReported}
 

@@ -3,7 +3,6 @@ ghost use mathlib.Core.Path.{_≡_};
 ghost use lib.ListN.{length};
 ghost use Rattle.lists.specs.Lists.{cells};
 ghost use Rattle.stats.specs.Average as stats;
-ghost use Rattle.intake.specs.Intake as intake;
 ghost use Rattle.intake.specs.Intake.{intakeOf};
 ghost use Rattle.reports.specs.Average.{averageReported};
 ghost use Rattle.reports.specs.Book.{bookShape, bookReported};
@@ -61,8 +60,8 @@ pub extern "C" fn onc_check_book(
         return refused;
     }
     let a = intake::check_book(cells, rows, cols);
-    let number = intake::number_of(a);
-    let place = intake::place_of(a);
+    let number = intake_answers::number_of(a);
+    let place = intake_answers::place_of(a);
     reports::report_two(number, place, answer)
 }
 

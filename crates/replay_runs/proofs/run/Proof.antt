@@ -3,8 +3,9 @@ use mathlib.Core.Path.{_≡_, refl}
 use native.Mathlib.Omega.{arith}
 use lib.ListN.{length}
 use Rattle.counts.proofs.Counting.{Counted, counted-none, counted-more, counted-all}
-use Rattle.replay_runs.specs.declared.Case.{Case}
-use Rattle.replay_runs.specs.Runs.{caseAt, rightCase, countsIn}
+use Rattle.run_cases.specs.declared.Case.{Case}
+use Rattle.run_cases.specs.Cases.{caseAt}
+use Rattle.replay_runs.specs.Runs.{rightCase, countsIn}
 use Rattle.replay_runs.proofs.run.Statement.{statement}
 use Rattle.replay_runs.proofs.run.Tie as tie
 

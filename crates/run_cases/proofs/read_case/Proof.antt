@@ -1,7 +1,7 @@
 use native.Mathlib.Omega.{arith}
-use Rattle.replay_runs.specs.Runs.{caseAt}
-use Rattle.replay_runs.proofs.read_case.Statement.{statement}
-use Rattle.replay_runs.proofs.read_case.Tie as tie
+use Rattle.run_cases.specs.Cases.{caseAt}
+use Rattle.run_cases.proofs.read_case.Statement.{statement}
+use Rattle.run_cases.proofs.read_case.Tie as tie
 
 size-from-requires : tie.Need-size-from-requires
 size-from-requires c κs = tt

@@ -3,9 +3,9 @@ use mathlib.Core.List.{List}
 use Prim.Native.Nat.{ℕ}
 use lib.ListN.{length}
 use Rattle.compared.specs.Compared.{sameNumbers}
-use Rattle.replay_runs.specs.Runs.{sameAnswer}
-use Rattle.replay_runs.proofs.same_answer.Statement.{statement}
-use Rattle.replay_runs.proofs.same_answer.Tie as tie
+use Rattle.run_cases.specs.Cases.{sameAnswer}
+use Rattle.run_cases.proofs.same_answer.Statement.{statement}
+use Rattle.run_cases.proofs.same_answer.Tie as tie
 
 answer-of-requires : tie.Need-answer-of-requires
 answer-of-requires c κs = tt

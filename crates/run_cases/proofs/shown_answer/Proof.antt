@@ -2,8 +2,8 @@ use mathlib.Core.Path.{sym, ap}
 use mathlib.Core.List.{List}
 use Prim.Native.Nat.{ℕ}
 use lib.ListN.{length}
-use Rattle.replay_runs.proofs.shown_answer.Statement.{statement}
-use Rattle.replay_runs.proofs.shown_answer.Tie as tie
+use Rattle.run_cases.proofs.shown_answer.Statement.{statement}
+use Rattle.run_cases.proofs.shown_answer.Tie as tie
 
 answer-of-requires : tie.Need-answer-of-requires
 answer-of-requires c κs = tt

@@ -1,5 +1,5 @@
-use Rattle.replay_runs.proofs.answer_of.Statement.{statement}
-use Rattle.replay_runs.proofs.answer_of.Tie as tie
+use Rattle.run_cases.proofs.answer_of.Statement.{statement}
+use Rattle.run_cases.proofs.answer_of.Tie as tie
 
 number-of-requires : tie.Need-number-of-requires
 number-of-requires c κs = tt

@@ -1,9 +1,9 @@
 use native.Mathlib.Omega.{arith}
 use borrow.Author.Tests.{not-false, not-true}
 use Rattle.words.proofs.Values.{first-fails, first-passes}
-use Rattle.replay_runs.specs.Runs.{sameOutputs}
-use Rattle.replay_runs.proofs.same_outputs.Statement.{statement}
-use Rattle.replay_runs.proofs.same_outputs.Tie as tie
+use Rattle.run_cases.specs.Cases.{sameOutputs}
+use Rattle.run_cases.proofs.same_outputs.Statement.{statement}
+use Rattle.run_cases.proofs.same_outputs.Tie as tie
 
 add-order-at : tie.Need-add-order-at
 add-order-at c = omega (arith, c .before .before .before .before .before .before .pre .0)

@@ -1,0 +1,2 @@
+-- What the check of a book in whole millionths answers.
+pub mod Answers
