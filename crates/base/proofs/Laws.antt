@@ -1,6 +1,6 @@
 -- From what the search answers to what the base of a round is.
 use Prim.Native.Nat.{ℕ, _+_, _*_, _<_, _≤_}
-use mathlib.Core.Path.{_≡_, refl, sym, _∙_, ap, subst}
+use mathlib.Core.Path.{_≡_, refl, _∙_, ap, subst}
 use mathlib.Core.List.{List, _++_}
 use lib.ListN.{length, drop}
 use lib.Ieee.{Float}
@@ -8,13 +8,13 @@ use Rattle.lists.specs.Lists.{numbers}
 use Rattle.columns.specs.Columns.{pointsAt}
 use Rattle.pairs.specs.Pairs.{pairsArea}
 use Rattle.draws.specs.Counts.{countOf}
-use Rattle.draws.specs.Draws.{Drawn, drawn}
+use Rattle.draws.specs.Draws.{Drawn}
 use Rattle.draws.specs.declared.Stop.{Stop}
 use Rattle.draws.specs.declared.Stop.the-variants.{ClusteringFailed}
 use Rattle.draws.proofs.Taken.{Ends}
 use Rattle.partition.specs.Partition.{groupsOf, joined}
 use Rattle.partition.specs.Orders.{sizesOf}
-use Rattle.candidates.specs.Candidates.{Best, found, bestOf}
+use Rattle.candidates.specs.Candidates.{Best, bestOf}
 use Rattle.candidates.specs.Steps.{SearchedBy}
 use Rattle.choice.specs.declared.Kept.the-variants.{Nothing, Candidate}
 use Rattle.candidates.specs.declared.Searched as searched

@@ -6,7 +6,7 @@ use native.Mathlib.Nat.{mul-one}
 use native.Mathlib.Omega.{arith}
 use borrow.Author.Tests.{ne-eqb}
 use lib.Dec.{T}
-use lib.Ieee.{Float, inf, binary64, odd, ofFields, ofBits, toBits}
+use lib.Ieee.{inf, binary64, odd, ofFields, ofBits, toBits}
 use lib.Ieee.Exact.{HasValue, odd-sign}
 use lib.Ieee.Bits.{ofBits-toBits, toBits-ofBits, nanBits-is}
 use Rattle.bits.specs.Bits.{doubleOf, bitsOf}

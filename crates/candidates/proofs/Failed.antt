@@ -1,6 +1,6 @@
 -- Where a round finds no candidate, none of its candidates has a t-stat above -infinity.
-use Prim.Native.Nat.{ℕ, zero, suc, _+_, _-_, _*_, _<_, _≤_, max}
-use mathlib.Core.Path.{_≡_, refl, sym, _∙_, ap, subst}
+use Prim.Native.Nat.{ℕ, zero, suc, _+_, _-_, _*_, _<_, _≤_}
+use mathlib.Core.Path.{_≡_, refl, _∙_, ap, subst}
 use mathlib.Core.Bool.{Bool, true, false, cond}
 use mathlib.Core.List.{List}
 use native.Mathlib.Nat.{not-suc-le-zero, le-of-suc-le-suc, suc-mul, zero-mul}
@@ -16,7 +16,7 @@ use Rattle.clustering.proofs.Laws.{Took, kmeans-took}
 use Rattle.choice.specs.Replaces.{replaces}
 use Rattle.candidates.specs.Candidates.{Candidate, candidateOf, candidateFrom, Best, nothing, found, keep, triesFrom, repeatsFrom, bestOf}
 use Rattle.candidates.specs.Failed.{NoStat, NoStats}
-use Rattle.candidates.proofs.Laws.{Passed, count-is, repeat-took}
+use Rattle.candidates.proofs.Laws.{Passed, repeat-took}
 
 -- a candidate was kept
 abbrev Kept : Best → Type 0

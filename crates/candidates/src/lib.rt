@@ -1,6 +1,6 @@
 // The best of the candidates of a round: repeats outside, the number of groups inside. Inner forms, for `cluster_kmeans_base`.
 ghost use mathlib.Core.Path.{_≡_};
-ghost use Prim.Native.Nat.{_≤_, _<_, _+_, _*_};
+ghost use Prim.Native.Nat.{_≤_, _+_, _*_};
 ghost use lib.ListN.{length, take, drop};
 ghost use Rattle.columns.specs.Columns.{pointsAt};
 ghost use Rattle.draws.specs.Counts.{seedingOf, tries, countOf};

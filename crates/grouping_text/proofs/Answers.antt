@@ -22,7 +22,7 @@ use Rattle.partition.proofs.Cuts.{cut-joined, groups-few, partition-length, siz
 use Rattle.rounds.specs.Round.{Run, done, ended}
 use Rattle.rounds.proofs.Runs.{Whole}
 use Rattle.onc_answers.specs.declared.Onc.{Onc}
-use Rattle.onc_answers.specs.Answers.{Answer, numberOf, placeOf, groupsOf, readOf, answerOf}
+use Rattle.onc_answers.specs.Answers.{numberOf, placeOf, groupsOf, readOf, answerOf}
 use Rattle.onc_checks.specs.Checks.{shapeOf}
 use Rattle.onc_run.specs.Run.{Lists, Outcome, runOf, ran}
 use Rattle.onc.specs.Onc.{shape, groupOf}

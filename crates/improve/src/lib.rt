@@ -1,6 +1,6 @@
 // The partition of a round with its weak groups clustered again, and its scores. Inner forms, for the rounds.
 ghost use mathlib.Core.Path.{_≡_};
-ghost use Prim.Native.Nat.{_+_, _*_};
+ghost use Prim.Native.Nat.{_*_};
 ghost use lib.ListN.{length};
 ghost use Rattle.distance.specs.Distance.{Readable, distAt};
 ghost use Rattle.scoring.specs.Scoring.{scoresOf};

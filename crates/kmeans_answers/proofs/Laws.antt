@@ -1,8 +1,8 @@
 -- What a k-means leaf knows once nothing is refused, and what its lists are, refused or not.
-use Prim.Native.Nat.{ℕ, _<_, _≤_, _*_}
+use Prim.Native.Nat.{ℕ, _≤_, _*_}
 use mathlib.Core.Path.{_≡_, refl, sym, _∙_}
-use mathlib.Core.Bool.{Bool, true, false, cond, _&&_, _||_}
-use mathlib.Core.List.{List, _++_}
+use mathlib.Core.Bool.{Bool, true, false, cond, _||_}
+use mathlib.Core.List.{List}
 use borrow.Author.Tests.{ltb-false, eqb-true, leb-true, ne-eqb}
 use lib.Dec.{eqb, ltb, leb}
 use lib.Ieee.{Float}

@@ -1,4 +1,5 @@
-// The layout of a request: three lines of fields, found place by place. Nothing is stored.
+// The layout of a request: three lines of fields, found place by place. Nothing is stored. Inner forms,
+// for `read_request`.
 ghost use mathlib.Core.Path.{_≡_};
 ghost use Prim.Native.Nat.{_+_, _^_, _<_, _≤_};
 ghost use Rattle.digits.specs.Digits.{runOf, spelled};

@@ -1,6 +1,7 @@
 // Rows of the table that Lloyd's passes keep, in one list of five areas of m by m cells: the points, their transpose, the
 // squared pair distances, one that is not used here, and the table, whose row l has the squared distances of all items to
-// centroid l: the mean of the members of group l, the item that it takes if it is empty, or the item that it starts from.
+// centroid l: the mean of the members of group l, the item that it takes if it is empty, or the item that it starts from. Inner forms, all functions
+// here.
 ghost use mathlib.Core.Path.{_≡_};
 ghost use Prim.Native.Nat.{ℕ, _<_, _*_};
 ghost use lib.ListN.{length, take, set};
@@ -13,7 +14,7 @@ ghost use Rattle.nearest.specs.Nearest.{farthestOf};
 ghost use Rattle.centroids.specs.Groups.{meanOver, distances};
 ghost use Rattle.means.specs.Area.{Held, Centres, tableRow, withRow, Refreshed};
 
-// The squared pair distances of item j become row l of the table. Inner form, as all functions here.
+// The squared pair distances of item j become row l of the table.
 fn copy_row(area: &mut [f64], m: usize, j: usize, l: usize)
     requires { ⌜ Held (now area) m × (j < m) × (l < m) ⌝ }
     ensures { λ _. ⌜ now (area .exit) ≡ withRow (now (area .entry)) m l (distances (pointsAt (now (area .entry)) m) m (pointsAt (now (area .entry)) m j)) ⌝ }

@@ -1,7 +1,6 @@
 -- Laws of the list of four areas: what a step keeps, and what a row more makes.
 use Prim.Native.Nat.{ℕ, _+_, _-_, _*_, _<_, _≤_}
 use mathlib.Core.Path.{_≡_, refl, sym, _∙_, ap}
-use mathlib.Core.Bool.{_&&_}
 use mathlib.Core.List.{List, _++_, append-assoc, append-nil}
 use native.Mathlib.Nat.{mul-le-mul-right, suc-mul, div-add-mod'}
 use native.Mathlib.Omega.{arith}

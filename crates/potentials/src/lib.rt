@@ -1,4 +1,5 @@
-// What a draw picks as one centre more of k-means++, what the weights total with the pick as a centre too, and the better of two picks.
+// What a draw picks as one centre more of k-means++, what the weights total with the pick as a centre too, and the better of two picks. Inner
+// forms, for the trials.
 ghost use mathlib.Core.Path.{_≡_};
 ghost use Prim.Native.Nat.{_<_};
 ghost use lib.ListN.{length};

@@ -1,15 +1,13 @@
 -- The answer of a statistic in its lists, or the refusal of lists that do not fit.
 use Prim.Native.Nat.{ℕ}
-use mathlib.Core.Path.{_≡_, refl, sym, _∙_, ap}
-use mathlib.Core.Bool.{Bool, true, false, cond, _&&_}
+use mathlib.Core.Path.{_≡_, refl}
 use mathlib.Core.List.{List, [], _∷_, _++_}
 use native.Mathlib.Omega.{arith}
 use borrow.Author.Tests.{eq-eqb, ne-eqb}
-use lib.Dec.{eqb}
 use lib.ListN.{length, set, drop}
 use lib.Ieee.{Float}
 use Rattle.stats.specs.Average.{Averaged}
-use Rattle.reports.specs.Average.{AverageReport, numberWithout, averageReported}
+use Rattle.reports.specs.Average.{numberWithout, averageReported}
 
 pub two-written : (xs : List ℕ) (a b : ℕ) → length xs ≡ 2 → set (set xs 0 a) 1 b ≡ a ∷ b ∷ []
 two-written [] a b h = absurd (omega arith)

@@ -1,7 +1,7 @@
 -- A statistic called from C: the average in a lent list of one double, the answer in a lent list of two numbers, and its number alone as
 -- the value. Definitions only.
 use Prim.Native.Nat.{ℕ}
-use mathlib.Core.Bool.{Bool, cond, _&&_}
+use mathlib.Core.Bool.{cond, _&&_}
 use mathlib.Core.List.{List, [], _∷_, _++_}
 use lib.Dec.{eqb}
 use lib.ListN.{length, drop}

@@ -5,7 +5,7 @@ use mathlib.Core.List.{List}
 use lib.ListN.{length}
 use lib.Ieee.{Float}
 use Rattle.refusals.specs.Table.{refused}
-use Rattle.request_text.specs.Request.{Requested, kept, readAs, requestOf}
+use Rattle.request_text.specs.Request.{kept, readAs, requestOf}
 use Rattle.request_text.specs.Written.{requestText}
 
 -- what a text of the layout may say: n names, r repeats, d draws, the bits of the cells, and draw t with width t digits

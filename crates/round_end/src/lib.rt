@@ -1,6 +1,5 @@
 // The end of a round: the choice between its base and the partition that the re-clustering of its weak items gives. Inner forms, for
 // `cluster_kmeans_top`.
-ghost use mathlib.Core.Path.{_≡_};
 ghost use Prim.Native.Nat.{_*_};
 ghost use lib.ListN.{length, take};
 ghost use Rattle.lists.specs.Lists.{part};

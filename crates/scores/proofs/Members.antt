@@ -1,10 +1,9 @@
 -- Sums and counts over the members of a group, for all items at a time.
-use Prim.Native.Nat.{ℕ, zero, suc, _+_, _*_, _<_, _≤_}
+use Prim.Native.Nat.{ℕ, zero, suc, _+_, _<_}
 use mathlib.Core.Path.{_≡_, refl, sym, _∙_, ap}
-use mathlib.Core.Bool.{Bool, true, false, cond, not, _&&_}
+use mathlib.Core.Bool.{Bool, true, false, cond}
 use mathlib.Core.List.{List}
 use mathlib.Core.Logic.{⊎-elim, by-cases}
-use native.Mathlib.Numerals.{add-one}
 use native.Mathlib.Nat.{eq-or-lt-of-le, ne-of-lt}
 use native.Mathlib.Omega.{arith}
 use native.Mathlib.Decide.{ℕ-discrete}
@@ -14,7 +13,7 @@ use lib.ListN.{length, set, replicate}
 use lib.Ieee.{Float, nan, add, binary64}
 use Rattle.lists.specs.Lists.{listed, cells, numbers, row}
 use Rattle.lists.specs.Sums.{zero64, foldIf, sumIf, countIf, groupSize}
-use Rattle.lists.proofs.Listed.{listed-same, listed-set, listed-const, listed-length, getD-listed, length-listed}
+use Rattle.lists.proofs.Listed.{listed-same, listed-set, listed-const, listed-length, getD-listed}
 use Rattle.lists.proofs.Sums.{fold-in, fold-out, fold-same}
 use Rattle.lists.proofs.Grid.{row-cell}
 use Rattle.scores.specs.Scores.{member}

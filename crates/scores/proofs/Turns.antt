@@ -1,7 +1,7 @@
 -- One group more, and the scores after every group.
-use Prim.Native.Nat.{ℕ, zero, suc, _+_, _-_, _*_, _<_, _≤_}
+use Prim.Native.Nat.{ℕ, _+_, _-_, _<_, _≤_}
 use mathlib.Core.Path.{_≡_, refl, sym, _∙_, ap}
-use mathlib.Core.Bool.{Bool, true, false, cond, _&&_}
+use mathlib.Core.Bool.{Bool, true, false, cond}
 use mathlib.Core.List.{List}
 use mathlib.Core.Logic.{by-cases}
 use native.Mathlib.Omega.{arith}
@@ -11,8 +11,8 @@ use lib.Dec.{eqb, ltb}
 use lib.ListN.{length, replicate}
 use lib.Ieee.{Float, nan, inf, div, binary64}
 use Rattle.lists.specs.Lists.{listed, cells, numbers}
-use Rattle.lists.specs.Sums.{zero64, counted, countIf, groupSize, lesser}
-use Rattle.lists.proofs.Listed.{listed-same, listed-const, listed-length, getD-listed, length-listed}
+use Rattle.lists.specs.Sums.{zero64, counted, groupSize, lesser}
+use Rattle.lists.proofs.Listed.{listed-same, listed-const, listed-length, getD-listed}
 use Rattle.lists.proofs.Sums.{fold-none}
 use Rattle.scores.specs.Scores.{member, groupSum, groupCount, least, scoreOf, scoreFrom, silhouette}
 use Rattle.scores.specs.Groups.{distance, atMembers, markOf, ownMean, loneBelow, leastBelow, Midway, scoresAcross}

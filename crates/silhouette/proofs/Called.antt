@@ -1,16 +1,15 @@
 -- The public call: what an accepted call knows, and what the working list holds.
-use Prim.Native.Nat.{ℕ, _+_, _*_, _<_, _≤_}
+use Prim.Native.Nat.{ℕ, _*_, _<_, _≤_}
 use mathlib.Core.Path.{_≡_, sym, _∙_, ap}
 use mathlib.Core.Bool.{_&&_}
 use mathlib.Core.List.{List, _++_}
 use native.Mathlib.Omega.{arith}
 use borrow.Author.Tests.{eq-eqb, eqb-true, leb-true}
 use lib.Dec.{eqb, leb}
-use lib.ListN.{length, take, drop, replicate, length-append, length-drop}
-use lib.Seq.{length-take-le, take-at, drop-at}
+use lib.ListN.{length, take, drop, length-append, length-drop}
+use lib.Seq.{take-at, drop-at}
 use lib.Ieee.{Float, nan}
 use Rattle.lists.specs.Lists.{listed, numbers, cellAt, flat, grid, firstFrom}
-use Rattle.lists.specs.Sums.{zero64}
 use Rattle.lists.proofs.Listed.{listed-same, listed-length}
 use Rattle.lists.proofs.First.{from-none}
 use Rattle.lists.proofs.Grid.{in-grid}

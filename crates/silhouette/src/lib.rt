@@ -1,6 +1,6 @@
 // Rousseeuw's silhouette of every item, from the pair distances and a label for each item.
 ghost use mathlib.Core.Path.{_≡_};
-ghost use Prim.Native.Nat.{ℕ, _<_, _≤_, _+_, _*_};
+ghost use Prim.Native.Nat.{ℕ, _<_, _≤_, _*_};
 ghost use lib.ListN.{length};
 ghost use Rattle.lists.specs.Lists.{listed, numbers};
 ghost use Rattle.refusals.specs.Table.{refusalOf, workDoubles, wiped};

@@ -1,4 +1,4 @@
-// Bytes, numbers and words written to a list from a place on, and how many bytes a call wrote.
+// Bytes, numbers and words written to a list from a place on, and how many bytes a call wrote. The `put_` functions are inner forms.
 ghost use mathlib.Core.Path.{_≡_};
 ghost use Prim.Native.Nat.{_+_, _<_, _≤_};
 ghost use mathlib.Core.List.{_++_, _∷_, []};

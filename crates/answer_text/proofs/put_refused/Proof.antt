@@ -1,8 +1,7 @@
-use Rattle.answer_text.proofs.Texts.{refused-is}
+use Rattle.answer_text.proofs.Texts.{refused-is, length-field}
 use native.Mathlib.Omega.{arith}
 use Rattle.answer_text.specs.Answer.{refusedText, refusedWord, atWord}
 use Rattle.writing.proofs.Stores.{then, wrote-as, wrote-length}
-use Rattle.answer_text.proofs.Texts.{length-field}
 use borrow.Author.Needs.{needs}
 use Rattle.answer_text.proofs.put_refused.Statement.{statement}
 use Rattle.answer_text.proofs.put_refused.Tie as tie

@@ -1,8 +1,7 @@
 use mathlib.Core.Path.{_∙_, _≡_, refl, sym}
 use borrow.Author.Tests.{le-ltb, lt-ltb}
 use borrow.Author.Needs.{needs}
-use Rattle.refusals.specs.Table.{numberOf}
-use Rattle.refusals.specs.Table.{when}
+use Rattle.refusals.specs.Table.{numberOf, when}
 use Rattle.kmeans_answers.specs.Leaf.{leafRefusal}
 use Rattle.kmeans_answers.proofs.Laws.{above, below-is}
 use Rattle.kmeans_answers.proofs.check.Statement.{statement}

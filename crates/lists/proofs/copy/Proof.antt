@@ -5,8 +5,7 @@ use native.Mathlib.Omega.{arith}
 use borrow.Author.Needs.{needs}
 use lib.ListN.{length, getD, length-set}
 use lib.Ieee.{nan}
-use Rattle.lists.proofs.Listed.{writes, writes-more, writes-done}
-use Rattle.lists.proofs.Listed.{listed-cells}
+use Rattle.lists.proofs.Listed.{writes, writes-more, writes-done, listed-cells}
 use Rattle.lists.proofs.copy.Statement.{statement}
 use Rattle.lists.proofs.copy.Tie as tie
 

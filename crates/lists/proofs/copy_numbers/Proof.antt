@@ -4,8 +4,7 @@ use Prim.Native.Nat.{_-_, _≤_}
 use native.Mathlib.Omega.{arith}
 use borrow.Author.Needs.{needs}
 use lib.ListN.{length, getD, length-set}
-use Rattle.lists.proofs.Listed.{writes, writes-more, writes-done}
-use Rattle.lists.proofs.Listed.{listed-cells}
+use Rattle.lists.proofs.Listed.{writes, writes-more, writes-done, listed-cells}
 use Rattle.lists.proofs.copy_numbers.Statement.{statement}
 use Rattle.lists.proofs.copy_numbers.Tie as tie
 

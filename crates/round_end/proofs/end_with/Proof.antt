@@ -1,10 +1,8 @@
 use Prim.Native.Nat.{_*_, _+_, _-_, _≤_, ℕ}
-use mathlib.Core.Path.{_∙_, _≡_, refl, sym}
-use mathlib.Core.Bool.{false, true}
+use mathlib.Core.Path.{_∙_, _≡_, sym}
 use native.Mathlib.Omega.{arith}
 use lib.ListN.{length, take}
 use lib.Seq.{length-take-le}
-use lib.Ieee.{lt}
 use borrow.Author.Needs.{needs}
 use Rattle.lists.specs.Lists.{part}
 use Rattle.lists.proofs.Parts.{part-length}

@@ -1,8 +1,7 @@
-use lib.ListN.{length-replicate}
+use lib.ListN.{length-replicate, length, replicate}
 use Prim.Native.Nat.{_+_, _-_, _<_, _≤_, ℕ}
 use mathlib.Core.Path.{_∙_, _≡_, ap, refl, sym}
 use native.Mathlib.Omega.{arith}
-use lib.ListN.{length, replicate}
 use lib.Ieee.{ofBits}
 use lib.Dec.{eqb}
 use borrow.Author.Tests.{eq-eqb, ne-eqb}

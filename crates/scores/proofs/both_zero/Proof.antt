@@ -1,5 +1,4 @@
 use lib.Ieee.{ofBits}
-use borrow.Author.Needs.{needs}
 use Rattle.scores.proofs.both_zero.Statement.{statement}
 use Rattle.scores.proofs.both_zero.Tie as tie
 

@@ -1,4 +1,3 @@
-use borrow.Author.Needs.{needs}
 use Rattle.scores.proofs.larger.Statement.{statement}
 use Rattle.scores.proofs.larger.Tie as tie
 

@@ -1,4 +1,3 @@
-use mathlib.Core.Path.{sym, _∙_}
 use Rattle.scores.specs.Scores.{scoreOf}
 use lib.Ieee.{ofBits}
 use borrow.Author.Needs.{needs}

@@ -5,8 +5,7 @@ use native.Mathlib.Omega.{arith}
 use lib.ListN.{length}
 use lib.Ieee.{ofBits}
 use Rattle.lists.specs.Lists.{cells}
-use Rattle.lists.specs.Sums.{sumTo}
-use Rattle.lists.specs.Sums.{squareFrom}
+use Rattle.lists.specs.Sums.{sumTo, squareFrom}
 use Rattle.lists.proofs.Sums.{sum-more}
 use Rattle.stats.proofs.sum_of_squares.Statement.{statement}
 use Rattle.stats.proofs.sum_of_squares.Tie as tie

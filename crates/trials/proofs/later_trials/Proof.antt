@@ -4,8 +4,7 @@ use native.Mathlib.Omega.{arith}
 use lib.ListN.{drop, length}
 use borrow.Author.Needs.{needs}
 use Rattle.draws.specs.Stops.{drawOf}
-use Rattle.draws.specs.Draws.{takes}
-use Rattle.draws.specs.Draws.{one}
+use Rattle.draws.specs.Draws.{takes, one}
 use Rattle.potentials.specs.Potentials.{better, limit}
 use Rattle.trials.specs.Trials.{against, table, triedOf}
 use Rattle.lists.specs.Lists.{cells}
