@@ -7,9 +7,9 @@ ghost use lib.Dec.{leb, eqb};
 ghost use lib.ListN.{length};
 ghost use Rattle.bits.specs.Bits.{bitsOf};
 ghost use Rattle.writing.specs.Stores.{Wrote};
-ghost use Rattle.writing.specs.Answers.{refusalOf, bytesOf};
+ghost use Rattle.text_answers.specs.Answers.{refusalOf, bytesOf};
 ghost use Rattle.answer_text.specs.Answer.{lineText, sizesText, groupedText, refusedText, room, mostNames, groupingFits, refusalFits, writtenOf};
-use writing::Written;
+use text_answers::Written;
 
 // Each `put_` function below writes from a place on, and answers the place behind what it wrote.
 // The labels as a line, in decimal.

@@ -23,6 +23,6 @@ fn answer_input(room: &mut [u8])
 fn respond(text: &[u8]) {
     let mut out = io::buffer();
     let written = grouping_text::answer_to(text, &mut out);
-    let count = writing::bytes_of(written);
+    let count = text_answers::bytes_of(written);
     io::write_all(1, &out[..count]);
 }

@@ -6,11 +6,11 @@ ghost use Rattle.partition.specs.Orders.{Sized, cut};
 ghost use Rattle.partition.specs.Partition.{labelOf};
 ghost use Rattle.lists.specs.Lists.{listed};
 ghost use Rattle.lists.specs.Sums.{zero64};
-ghost use Rattle.writing.specs.Answers.{refusalOf, bytesOf};
+ghost use Rattle.text_answers.specs.Answers.{refusalOf, bytesOf};
 ghost use Rattle.answer_text.specs.Answer.{groupedText, refusalFits, writtenOf};
 ghost use Rattle.grouping_text.specs.Program.{bookText, programOf};
 use request_text::Request;
-use writing::Written;
+use text_answers::Written;
 
 // Lists for 12 names. Each comes from a function: a literal array would stand in every goal, cell by cell.
 fn cell_list() -> [f64; 144]

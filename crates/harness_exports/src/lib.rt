@@ -54,12 +54,12 @@ pub extern "C" fn onc_kmeans_plus_plus(
     ensures { λ r. ⌜ record { number = r; answer = now (answer .exit); out = now (centres .exit); floats = now (floats .exit); numbers = now (numbers .exit) }
         ≡ reportedOf (length (now (points .entry))) n (plusPlusLeaf (now (points .entry)) n k (now (draws .entry)) (now (centres .entry)) (now (floats .entry)) (now (numbers .entry))) (now (answer .entry)) (now (centres .entry)) (now (floats .entry)) (now (numbers .entry)) ⌝ }
 {
-    let refused = reports::kmeans_refused(points.len(), n, answer.len());
+    let refused = kmeans_reports::kmeans_refused(points.len(), n, answer.len());
     if refused != 0 {
         return refused;
     }
     let a = kmeans_centres::kmeans_plus_plus(points, n, k, draws, centres, floats, numbers);
-    reports::report_kmeans(a, answer)
+    kmeans_reports::report_kmeans(a, answer)
 }
 
 #[no_mangle]
@@ -75,12 +75,12 @@ pub extern "C" fn onc_lloyd(
     ensures { λ r. ⌜ record { number = r; answer = now (answer .exit); out = now (labels .exit); floats = now (floats .exit); numbers = now (numbers .exit) }
         ≡ reportedOf (length (now (points .entry))) n (lloydLeaf (now (points .entry)) n (now (centres .entry)) (now (labels .entry)) (now (floats .entry)) (now (numbers .entry))) (now (answer .entry)) (now (labels .entry)) (now (floats .entry)) (now (numbers .entry)) ⌝ }
 {
-    let refused = reports::kmeans_refused(points.len(), n, answer.len());
+    let refused = kmeans_reports::kmeans_refused(points.len(), n, answer.len());
     if refused != 0 {
         return refused;
     }
     let a = kmeans_passes::lloyd(points, n, centres, labels, floats, numbers);
-    reports::report_kmeans(a, answer)
+    kmeans_reports::report_kmeans(a, answer)
 }
 
 #[no_mangle]
@@ -97,12 +97,12 @@ pub extern "C" fn onc_kmeans_labels(
     ensures { λ r. ⌜ record { number = r; answer = now (answer .exit); out = now (labels .exit); floats = now (floats .exit); numbers = now (numbers .exit) }
         ≡ reportedOf (length (now (points .entry))) n (labelsLeaf (now (points .entry)) n k (now (draws .entry)) (now (labels .entry)) (now (floats .entry)) (now (numbers .entry))) (now (answer .entry)) (now (labels .entry)) (now (floats .entry)) (now (numbers .entry)) ⌝ }
 {
-    let refused = reports::kmeans_refused(points.len(), n, answer.len());
+    let refused = kmeans_reports::kmeans_refused(points.len(), n, answer.len());
     if refused != 0 {
         return refused;
     }
     let a = kmeans::kmeans_labels(points, n, k, draws, labels, floats, numbers);
-    reports::report_kmeans(a, answer)
+    kmeans_reports::report_kmeans(a, answer)
 }
 
 // What k-means reads of the points, worked out once for every k. Inner form.

@@ -1,4 +1,4 @@
--- Lists of four and of three numbers that are written, and a call that is refused because the list for its answer has another length.
+-- A list of four numbers that is written, and a call that is refused because the list for its answer has another length.
 use Prim.Native.Nat.{ℕ}
 use mathlib.Core.Path.{_≡_, refl, sym, _∙_}
 use mathlib.Core.Bool.{Bool, true, false, cond}
@@ -18,16 +18,6 @@ four (x ∷ y ∷ z ∷ u ∷ v ∷ vs) a b c d h = absurd (omega arith)
 
 pub four-written : (xs : List ℕ) {a b c d n p g r : ℕ} → length xs ≡ 4 → a ≡ n → b ≡ p → c ≡ g → d ≡ r → set (set (set (set xs 0 a) 1 b) 2 c) 3 d ≡ n ∷ p ∷ g ∷ r ∷ []
 four-written xs {a} {b} {c} {d} h e f g k = four xs a b c d h ∙ rw (e, f, g, k)
-
-three : (xs : List ℕ) (a b c : ℕ) → length xs ≡ 3 → set (set (set xs 0 a) 1 b) 2 c ≡ a ∷ b ∷ c ∷ []
-three [] a b c h = absurd (omega arith)
-three (x ∷ []) a b c h = absurd (omega arith)
-three (x ∷ y ∷ []) a b c h = absurd (omega arith)
-three (x ∷ y ∷ z ∷ []) a b c h = refl
-three (x ∷ y ∷ z ∷ u ∷ us) a b c h = absurd (omega arith)
-
-pub three-written : (xs : List ℕ) {a b c n p r : ℕ} → length xs ≡ 3 → a ≡ n → b ≡ p → c ≡ r → set (set (set xs 0 a) 1 b) 2 c ≡ n ∷ p ∷ r ∷ []
-three-written xs {a} {b} {c} h e f g = three xs a b c h ∙ rw (e, f, g)
 
 -- where a list of another length than k is refused by a number that is not 0, a call that is not refused was lent k places
 by-places : (t : Bool) (k places : ℕ) {q r : ℕ} → eqb places k ≡ t → (q ≡ 0 → ⊥) → r ≡ cond t 0 q → r ≡ 0 → places ≡ k

@@ -5,13 +5,10 @@ ghost use mathlib.Core.List.{[], _∷_};
 ghost use lib.Dec.{eqb};
 ghost use lib.ListN.{length};
 ghost use Rattle.stats.specs.Average.{averagedOf};
-ghost use Rattle.refusals.specs.Table.{refusal};
-ghost use Rattle.kmeans_answers.specs.Answers as kmeans;
 ghost use Rattle.onc_answers.specs.Answers.{numberOf, placeOf, groupsOf, readOf};
 ghost use Rattle.onc_checks.specs.Checks.{shapeOf};
 ghost use Rattle.reports.specs.Average.{numberWithout, averageReported};
 ghost use Rattle.reports.specs.Book.{bookShape};
-use kmeans_answers::Kmeans;
 use onc_answers::Onc;
 use stats::Average;
 
@@ -41,28 +38,6 @@ pub fn report_grouping(a: Onc, answer: &mut [usize]) -> usize
     answer[1] = onc_answers::place_of(a);
     answer[2] = onc_answers::groups_of(a);
     answer[3] = onc_answers::read_of(a);
-    number
-}
-
-// 0 where the list for the answer has three places; else the number by which a k-means leaf is refused: 2, 4, 5 or 6.
-pub fn kmeans_refused(cells: usize, n: usize, places: usize) -> usize
-    ensures { λ r. ⌜ r ≡ cond (eqb places 3) 0 (refusal cells n n false 0 0 .number) ⌝ }
-{
-    if places == 3 {
-        return 0;
-    }
-    refusals::number_of(refusals::check(cells, n, n, false, 0, 0))
-}
-
-// The number, the place and the draws read, in a list of three; the number.
-pub fn report_kmeans(a: Kmeans, answer: &mut [usize]) -> usize
-    requires { ⌜ length (now answer) ≡ 3 ⌝ }
-    ensures { λ r. ⌜ (r ≡ kmeans.numberOf a) × (now (answer .exit) ≡ kmeans.numberOf a ∷ kmeans.placeOf a ∷ kmeans.readOf a ∷ []) ⌝ }
-{
-    let number = kmeans_answers::number_of(a);
-    answer[0] = number;
-    answer[1] = kmeans_answers::place_of(a);
-    answer[2] = kmeans_answers::read_of(a);
     number
 }
 

@@ -8,8 +8,8 @@ use lib.ListN.{length, take}
 use Rattle.lists.specs.Lists.{part}
 use Rattle.lists.proofs.Parts.{tail-is}
 use Rattle.words.specs.Words.{sizeFrom}
-use Rattle.writing.specs.declared.Written.{Written}
-use Rattle.writing.specs.Answers.{refusalOf, bytesOf}
+use Rattle.text_answers.specs.declared.Written.{Written}
+use Rattle.text_answers.specs.Answers.{refusalOf, bytesOf}
 use Rattle.answer_text.specs.Answer.{room, refusalFits, Writing, writtenOf}
 use Rattle.answer_text.proofs.Front.{in-front, refusal-fits}
 use Rattle.grouping_text.specs.Program.{programOf}

@@ -76,7 +76,7 @@ fn right_in(text: &[u8], answer: &[u8], out: &mut [u8]) -> bool
     ensures { λ r. ⌜ r ≡ rightText (now (text .entry)) (now (answer .entry)) ⌝ }
 {
     let w = grouping_text::answer_to(text, out);
-    let n = writing::bytes_of(w);
+    let n = text_answers::bytes_of(w);
     let right = same_bytes(&out[..n], answer);
     counts::shown_text(right, answer, &out[..n])
 }

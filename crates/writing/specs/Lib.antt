@@ -1,3 +1,2 @@
--- Answers: what a call that writes answers. Stores is what the functions that write to a list promise.
+-- What the functions that write to a list promise.
 pub mod Stores
-pub mod Answers

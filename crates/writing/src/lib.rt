@@ -1,4 +1,4 @@
-// Bytes, numbers and words written to a list from a place on, and how many bytes a call wrote. The `put_` functions are inner forms.
+// Bytes, numbers and words written to a list from a place on. Inner forms, for `answer_text`.
 ghost use mathlib.Core.Path.{_≡_};
 ghost use Prim.Native.Nat.{_+_, _<_, _≤_};
 ghost use mathlib.Core.List.{_++_, _∷_, []};
@@ -6,33 +6,6 @@ ghost use lib.ListN.{length};
 ghost use lib.Seq.{sets};
 ghost use Rattle.digits.specs.Digits.{digits as digitsOf, placesTo, widthOf, numeral, stopOf};
 ghost use Rattle.writing.specs.Stores.{Wrote};
-ghost use Rattle.writing.specs.Answers.{numberOf, bytesOf};
-
-// How many bytes were written, or that a list's length is wrong.
-pub enum Written {
-    Bytes(usize),
-    ListLength,
-}
-
-// The table's number; 0 where the text is written.
-pub fn number_of(w: Written) -> usize
-    ensures { λ r. ⌜ r ≡ numberOf w ⌝ }
-{
-    match w {
-        Written::Bytes(_n) => 0,
-        Written::ListLength => 6,
-    }
-}
-
-// How many bytes were written; 0 for a refusal.
-pub fn bytes_of(w: Written) -> usize
-    ensures { λ r. ⌜ r ≡ bytesOf w ⌝ }
-{
-    match w {
-        Written::Bytes(n) => n,
-        Written::ListLength => 0,
-    }
-}
 
 // How many decimal digits a number takes.
 fn places(x: u64) -> usize

@@ -1,8 +1,8 @@
 use native.Mathlib.Omega.{arith}
 use borrow.Author.Needs.{needs}
-use Rattle.reports.proofs.Written.{three-written}
-use Rattle.reports.proofs.report_kmeans.Statement.{statement}
-use Rattle.reports.proofs.report_kmeans.Tie as tie
+use Rattle.kmeans_reports.proofs.Written.{three-written}
+use Rattle.kmeans_reports.proofs.report_kmeans.Statement.{statement}
+use Rattle.kmeans_reports.proofs.report_kmeans.Tie as tie
 
 number-of-requires : tie.Need-number-of-requires
 number-of-requires c κs = tt

@@ -2,8 +2,8 @@ use mathlib.Core.Path.{_∙_, ap}
 use borrow.Author.Tests.{eq-eqb, ne-eqb}
 use borrow.Author.Needs.{needs}
 use Rattle.refusals.specs.Table.{Refusal}
-use Rattle.reports.proofs.kmeans_refused.Statement.{statement}
-use Rattle.reports.proofs.kmeans_refused.Tie as tie
+use Rattle.kmeans_reports.proofs.kmeans_refused.Statement.{statement}
+use Rattle.kmeans_reports.proofs.kmeans_refused.Tie as tie
 
 returns : tie.Need-returns
 returns c = rw (eq-eqb _ 3 (c .if1 .taken))

@@ -1,8 +1,8 @@
 -- What a call that writes answers: how many bytes were written, or a refusal. Definitions only.
 use Prim.Native.Nat.{ℕ}
 use Rattle.refusals.specs.Table.{Refusal}
-use Rattle.writing.specs.declared.Written.{Written}
-use Rattle.writing.specs.declared.Written.the-variants.{Bytes, ListLength}
+use Rattle.text_answers.specs.declared.Written.{Written}
+use Rattle.text_answers.specs.declared.Written.the-variants.{Bytes, ListLength}
 
 -- the table's number of an answer, 0 where the text is written; its place, 0, since the table names none for 6; and how many bytes the text takes
 abbrev pub numberOf : Written → ℕ

@@ -1,0 +1,2 @@
+-- A list of three numbers that is written.
+pub mod Written

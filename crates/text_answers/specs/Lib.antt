@@ -1,0 +1,2 @@
+-- What a call that writes a text answers.
+pub mod Answers
