@@ -2,4 +2,3 @@
 pub mod Means
 pub mod Members
 pub mod Single
-pub mod Tallies

@@ -12,7 +12,8 @@ use Rattle.lists.specs.Lists.{numbers, firstTo}
 use Rattle.lists.proofs.First.{first-none, first-holds}
 use Rattle.lists.proofs.Sums.{all-true, fold-none, fold-same, sum-same}
 use Rattle.lists.proofs.Listed.{listed-same}
-use Rattle.centroids.specs.Groups.{distances, mean, sameGroup}
+use Rattle.members.specs.Members.{sameGroup}
+use Rattle.centroids.specs.Groups.{distances, mean}
 use Rattle.columns.specs.Pair.{squared}
 
 beq-eq : (a b : Bool) → Bool·beq a b ≡ true → a ≡ b

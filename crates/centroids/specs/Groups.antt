@@ -1,22 +1,13 @@
--- The members of a group, their mean, and the squared distances of all items to a centroid. Definitions only.
+-- The mean of the members of a group, and the squared distances of all items to a centroid. Definitions only.
 -- There are m items: x i c is column c of item i, and label i is its group.
 use Prim.Native.Nat.{ℕ, _*_, _≤_}
 use mathlib.Core.Path.{_≡_}
-use mathlib.Core.Bool.{Bool, cond, Bool·beq}
 use mathlib.Core.List.{List}
 use lib.ListN.{length}
 use lib.Ieee.{Float, mul, div, binary64}
-use Rattle.lists.specs.Lists.{listed, numbers, cellAt, grid}
-use Rattle.lists.specs.Sums.{one64, counted, allTo, sumIf, inGroup, groupSize}
+use Rattle.lists.specs.Lists.{listed, cellAt, grid}
+use Rattle.lists.specs.Sums.{one64, counted, sumIf, inGroup, groupSize}
 use Rattle.columns.specs.Pair.{squared}
-
--- group l has the same members by both lists of labels
-abbrev pub sameGroup : List ℕ → List ℕ → ℕ → ℕ → Bool
-sameGroup a b m l = allTo (λ i. Bool·beq (inGroup (numbers a) l i) (inGroup (numbers b) l i)) m
-
--- 0 if group l has the same members by both lists of labels, else 1
-abbrev pub movedMark : List ℕ → List ℕ → ℕ → ℕ → ℕ
-movedMark a b m l = cond (sameGroup a b m l) 0 1
 
 -- column c of the mean of the n members of group l: their sum by rising row, times 1 / n
 abbrev pub meanOver : (ℕ → ℕ → Float) → (ℕ → ℕ) → ℕ → ℕ → ℕ → ℕ → Float

@@ -11,7 +11,6 @@ use lib.ListN.{length}
 use lib.Ieee.{Float, ofBits, binary64}
 use Rattle.lists.specs.Lists.{listed}
 use Rattle.lists.specs.Sums.{zero64}
-use Rattle.lists.proofs.Listed.{listed-length}
 use Rattle.refusals.specs.Table.{Refusal, workDoubles, workNumbers}
 use Rattle.draws.specs.declared.Stop.{Stop}
 use Rattle.draws.specs.declared.Stop.the-variants.{Rounds, Short, DrawOutOfRange, ClusteringFailed}
@@ -29,7 +28,7 @@ use Rattle.onc.specs.Onc.{shape, groupOf}
 use Rattle.onc.proofs.Shapes.{shape-within}
 use Rattle.onc.proofs.Calls.{by-call}
 use Rattle.onc_run.proofs.Runs.{run-whole}
-use Rattle.answer_text.specs.Answer.{groupedText, refusedText, groupingFits, refusalFits, Writing, writtenOf}
+use Rattle.answer_text.specs.Answer.{groupedText, refusedText}
 use Rattle.grouping_text.specs.Program.{runText, bookText}
 use Rattle.grouping_text.specs.Claim.{outcomeText, lentFor}
 
@@ -174,14 +173,6 @@ lent-by n book l p =
       floats-long = p .6;
       numbers-long = p .7;
     }
-
--- a grouping of at most 12 names, with as many scores, is written wherever a refusal is
-pub grouping-written : (f : ℕ → ℕ) (groups draws n : ℕ) (labels : List ℕ) (scores : List Float) (out : List ℕ) {w : Writing}
-    → w ≡ writtenOf (groupingFits labels scores out) (groupedText groups draws labels scores) out → labels ≡ listed f n → n ≤ 12 → length scores ≡ n
-    → w ≡ writtenOf (refusalFits out) (groupedText groups draws (listed f n) scores) out
-grouping-written f groups draws n labels scores out e h few long =
-    let k : length labels ≡ n = listed-length f n h in
-    e ∙ rw (k, long, le-leb n 12 few, eq-eqb n n refl) (ap (λ (x : List ℕ). writtenOf (refusalFits out) (groupedText groups draws x scores) out) h)
 
 -- +0 as it is written
 pub zero-literal : ofBits binary64 0 ≡ zero64

@@ -1,13 +1,10 @@
 // What the grouping program prints for the text that it reads.
 ghost use mathlib.Core.Path.{_≡_};
 ghost use Prim.Native.Nat.{_*_, _≤_};
-ghost use lib.ListN.{length, take, replicate};
-ghost use Rattle.partition.specs.Orders.{Sized, cut};
-ghost use Rattle.partition.specs.Partition.{labelOf};
-ghost use Rattle.lists.specs.Lists.{listed};
+ghost use lib.ListN.{length, replicate};
 ghost use Rattle.lists.specs.Sums.{zero64};
 ghost use Rattle.text_answers.specs.Answers.{refusalOf, bytesOf};
-ghost use Rattle.answer_text.specs.Answer.{groupedText, refusalFits, writtenOf};
+ghost use Rattle.answer_text.specs.Answer.{refusalFits, writtenOf};
 ghost use Rattle.grouping_text.specs.Program.{bookText, programOf};
 use request_text::Request;
 use text_answers::Written;
@@ -23,12 +20,6 @@ fn draw_list() -> [u64; 1024]
     ensures { λ r. ⌜ r ≡ replicate 1024 0 ⌝ }
 {
     [0; 1024]
-}
-
-fn name_list() -> [usize; 12]
-    ensures { λ r. ⌜ 12 ≡ length r ⌝ }
-{
-    [0; 12]
 }
 
 fn score_list() -> [f64; 12]
@@ -47,36 +38,6 @@ fn working_numbers() -> [usize; 3840]
     ensures { λ r. ⌜ 3840 ≡ length r ⌝ }
 {
     [0; 3840]
-}
-
-// The label of each name, in front of a list for 12 names, from the order and the sizes of the groups.
-fn labels_of(order: &[usize], sizes: &[usize], groups: usize) -> [usize; 12]
-    requires { ⌜ (length (now order) ≤ 12) × Sized (length (now order)) groups (now order) (now sizes) ⌝ }
-    ensures { λ r. ⌜ (12 ≡ length r) × (take (length (now (order .entry))) r ≡ listed (labelOf (cut groups (now (sizes .entry)) (now (order .entry)))) (length (now (order .entry)))) ⌝ }
-{
-    let n = order.len();
-    let mut labels = name_list();
-    partition::labels_from_clusters(order, sizes, groups, &mut labels[..n]);
-    labels
-}
-
-// Writes a grouping by the order and the sizes of its groups.
-fn write_groups(
-    groups: usize,
-    draws: usize,
-    order: &[usize],
-    sizes: &[usize],
-    scores: &[f64],
-    out: &mut [u8],
-) -> Written
-    requires { ⌜ (length (now order) ≤ 12) × Sized (length (now order)) groups (now order) (now sizes) × (length (now scores) ≡ length (now order)) ⌝ }
-    ensures { λ r. ⌜ record { refused = refusalOf r; count = bytesOf r; out = now (out .exit) }
-        ≡ writtenOf (refusalFits (now (out .entry)))
-        (groupedText groups draws (listed (labelOf (cut groups (now (sizes .entry)) (now (order .entry)))) (length (now (order .entry)))) (now (scores .entry))) (now (out .entry)) ⌝ }
-{
-    let n = order.len();
-    let labels = labels_of(order, sizes, groups);
-    answer_text::write_grouping(groups, draws, &labels[..n], scores, out)
 }
 
 // Groups a book of n names with the outputs and the lists to work in, and writes the answer.
@@ -115,7 +76,7 @@ fn group_with(
     if number != 0 {
         return answer_text::write_refusal(number, onc_answers::place_of(a), out);
     }
-    write_groups(
+    groups_text::write_groups(
         onc_answers::groups_of(a),
         onc_answers::read_of(a),
         order,
@@ -131,8 +92,8 @@ fn group(book: &[f64], n: usize, repeats: usize, draws: &[u64], out: &mut [u8]) 
     ensures { λ r. ⌜ record { refused = refusalOf r; count = bytesOf r; out = now (out .exit) }
         ≡ writtenOf (refusalFits (now (out .entry))) (bookText n repeats (now (book .entry)) (now (draws .entry))) (now (out .entry)) ⌝ }
 {
-    let mut order = name_list();
-    let mut sizes = name_list();
+    let mut order = groups_text::name_list();
+    let mut sizes = groups_text::name_list();
     let mut scores = score_list();
     let mut ordered = cell_list();
     let mut floats = working_doubles();

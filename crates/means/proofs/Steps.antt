@@ -11,7 +11,8 @@ use lib.Ieee.{Float, binary64, fits, inf, nan}
 use lib.Dec.{T}
 use borrow.Author.Tests.{eq-eqb, ne-eqb}
 use Rattle.nearest.specs.Nearest.{farthestOf}
-use Rattle.centroids.specs.Groups.{distances, mean, sameGroup}
+use Rattle.members.specs.Members.{sameGroup}
+use Rattle.centroids.specs.Groups.{distances, mean}
 use Rattle.columns.specs.Pair.{squared}
 use Rattle.lists.specs.Lists.{cellAt, numbers}
 use Rattle.lists.specs.Sums.{groupSize, inGroup}

@@ -13,7 +13,8 @@ use Rattle.lists.specs.Sums.{groupSize}
 use Rattle.columns.specs.Pair.{squaredAt}
 use Rattle.columns.specs.Columns.{pointsAt}
 use Rattle.nearest.specs.Nearest.{farthestOf}
-use Rattle.centroids.specs.Groups.{sameGroup, mean, distances}
+use Rattle.members.specs.Members.{sameGroup}
+use Rattle.centroids.specs.Groups.{mean, distances}
 
 -- what is lent: the areas but for the table
 pub record Held (area : List Float) (m : ℕ) : Type 0 where

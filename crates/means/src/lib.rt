@@ -76,7 +76,7 @@ pub fn refresh_group(
         return;
     }
     if n == 1 {
-        let j = centroids::first_member(labels, l);
+        let j = members::first_member(labels, l);
         copy_row(area, labels.len(), j, l);
         return;
     }

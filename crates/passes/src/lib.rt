@@ -46,8 +46,8 @@ fn refresh_rows(
     ensures { λ _. ⌜ Table (now (area .exit)) (length (now (labels .entry))) k (pointsAt (now (area .entry)) (length (now (labels .entry)))) (moved (pointsAt (now (area .entry)) (length (now (labels .entry)))) (numbers (now (labels .entry))) (cells (now (dists .entry))) (length (now (labels .entry)))) ⌝ }
     ensures { λ _. ⌜ take (4 * (length (now (labels .entry)) * length (now (labels .entry)))) (now (area .exit)) ≡ take (4 * (length (now (labels .entry)) * length (now (labels .entry)))) (now (area .entry)) ⌝ }
 {
-    centroids::group_sizes(labels, sizes);
-    centroids::mark_moved(old, labels, marks);
+    members::group_sizes(labels, sizes);
+    members::mark_moved(old, labels, marks);
     for l in 0..k {
         let n = sizes[l];
         if keeps_row(n, marks[l]) {

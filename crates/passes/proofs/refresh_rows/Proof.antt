@@ -3,14 +3,14 @@ use mathlib.Core.Path.{_∙_, _≡_, ap, sym}
 use mathlib.Core.List.{List}
 use native.Mathlib.Omega.{arith}
 use lib.ListN.{length}
-use Rattle.centroids.specs.Groups.{movedMark}
+use Rattle.members.specs.Members.{movedMark}
 use Rattle.means.proofs.Steps.{kept-step}
 use Rattle.passes.proofs.Turn.{Midway, kept-later, midway-more, midway-none}
 use Rattle.lists.specs.Lists.{numbers}
 use Rattle.lists.specs.Sums.{groupSize}
 use Rattle.means.specs.Area.{Held}
 use Rattle.means.proofs.Rows.{held-kept}
-use Rattle.centroids.proofs.Tallies.{not-moved}
+use Rattle.members.proofs.Tallies.{not-moved}
 use Rattle.lists.proofs.Listed.{getD-listed}
 use Rattle.passes.proofs.refresh_rows.Statement.{statement}
 use Rattle.passes.proofs.refresh_rows.Tie as tie

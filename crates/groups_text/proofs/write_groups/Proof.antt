@@ -3,9 +3,9 @@ use native.Mathlib.Omega.{arith}
 use lib.ListN.{length, take}
 use lib.Seq.{length-take-le}
 use borrow.Author.Needs.{needs}
-use Rattle.grouping_text.proofs.Answers.{grouping-written}
-use Rattle.grouping_text.proofs.write_groups.Statement.{statement}
-use Rattle.grouping_text.proofs.write_groups.Tie as tie
+use Rattle.groups_text.proofs.Written.{grouping-written}
+use Rattle.groups_text.proofs.write_groups.Statement.{statement}
+use Rattle.groups_text.proofs.write_groups.Tie as tie
 
 labels-of-requires : tie.Need-labels-of-requires
 labels-of-requires c κs = search needs

@@ -7,8 +7,8 @@ use borrow.Author.Tests.{eq-eqb, ne-eqb}
 use Rattle.lists.specs.Lists.{numbers, firstTo}
 use Rattle.lists.specs.Sums.{inGroup}
 use Rattle.lists.proofs.First.{first-more, first-found}
-use Rattle.centroids.proofs.first_member.Statement.{statement}
-use Rattle.centroids.proofs.first_member.Tie as tie
+use Rattle.members.proofs.first_member.Statement.{statement}
+use Rattle.members.proofs.first_member.Tie as tie
 
 abbrev Inv-loop : tie.InvT-loop
 Inv-loop labels l m i₀ i = (m ≡ length labels) × (i ≤ m) × (firstTo (inGroup (numbers labels) l) i ≡ i)

@@ -16,7 +16,7 @@ use Rattle.lists.specs.Sums.{allTo, inGroup, groupSize}
 use Rattle.lists.proofs.Sums.{fold-in, fold-out}
 use Rattle.lists.proofs.Listed.{getD-listed, listed-same, listed-set, listed-of}
 use Rattle.lists.proofs.Tests.{and-false, and-true, impossible}
-use Rattle.centroids.specs.Groups.{sameGroup, movedMark}
+use Rattle.members.specs.Members.{sameGroup, movedMark}
 
 -- item i is in none of the k groups, or in one of them
 pub size-skip : (label : ℕ → ℕ) (i k : ℕ) → k ≤ label i → listed (groupSize label i) k ≡ listed (groupSize label (i + 1)) k

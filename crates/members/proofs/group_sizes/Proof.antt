@@ -7,9 +7,9 @@ use Rattle.lists.specs.Sums.{foldIf, groupSize, inGroup}
 use Rattle.lists.specs.Lists.{listed, numbers}
 use Rattle.lists.proofs.Sums.{count-le}
 use Rattle.lists.proofs.Listed.{getD-listed, listed-const}
-use Rattle.centroids.proofs.Tallies.{size-add, size-skip}
-use Rattle.centroids.proofs.group_sizes.Statement.{statement}
-use Rattle.centroids.proofs.group_sizes.Tie as tie
+use Rattle.members.proofs.Tallies.{size-add, size-skip}
+use Rattle.members.proofs.group_sizes.Statement.{statement}
+use Rattle.members.proofs.group_sizes.Tie as tie
 
 abbrev Inv-loop : tie.InvT-loop
 Inv-loop labels sizes₀ k m i₀ sizes i = (m ≡ length labels) × (i ≤ m) × (k ≡ length sizes₀) × (length sizes ≡ k) × (sizes ≡ listed (groupSize (numbers labels) i) k)

@@ -2,13 +2,13 @@ use Prim.Native.Nat.{_-_, _≤_, ℕ}
 use mathlib.Core.Path.{_∙_, _≡_, refl, sym}
 use native.Mathlib.Omega.{arith}
 use lib.ListN.{length}
-use Rattle.centroids.specs.Groups.{movedMark}
+use Rattle.members.specs.Members.{movedMark}
 use Rattle.lists.specs.Sums.{allTo}
 use Rattle.lists.specs.Lists.{listed}
 use Rattle.lists.proofs.Listed.{listed-const}
-use Rattle.centroids.proofs.Tallies.{mark-both, mark-skip}
-use Rattle.centroids.proofs.mark_moved.Statement.{statement}
-use Rattle.centroids.proofs.mark_moved.Tie as tie
+use Rattle.members.proofs.Tallies.{mark-both, mark-skip}
+use Rattle.members.proofs.mark_moved.Statement.{statement}
+use Rattle.members.proofs.mark_moved.Tie as tie
 
 abbrev Inv-loop : tie.InvT-loop
 Inv-loop old labels marks₀ m i₀ marks i = (m ≡ length labels) × (i ≤ m) × (length marks ≡ length marks₀) × (marks ≡ listed (movedMark old labels i) (length marks₀))

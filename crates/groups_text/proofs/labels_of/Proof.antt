@@ -4,8 +4,8 @@ use lib.ListN.{length}
 use lib.Seq.{length-take-le}
 use borrow.Author.Needs.{needs}
 use Rattle.lists.proofs.Refilled.{refilled, refilled-front}
-use Rattle.grouping_text.proofs.labels_of.Statement.{statement}
-use Rattle.grouping_text.proofs.labels_of.Tie as tie
+use Rattle.groups_text.proofs.labels_of.Statement.{statement}
+use Rattle.groups_text.proofs.labels_of.Tie as tie
 
 name-list-requires : tie.Need-name-list-requires
 name-list-requires c κs = search needs

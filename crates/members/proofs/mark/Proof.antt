@@ -1,8 +1,8 @@
 use native.Mathlib.Omega.{arith}
 use borrow.Author.Needs.{needs}
-use Rattle.centroids.proofs.Tallies.{marked, not-marked}
-use Rattle.centroids.proofs.mark.Statement.{statement}
-use Rattle.centroids.proofs.mark.Tie as tie
+use Rattle.members.proofs.Tallies.{marked, not-marked}
+use Rattle.members.proofs.mark.Statement.{statement}
+use Rattle.members.proofs.mark.Tie as tie
 
 returns : tie.Need-returns
 returns c = not-marked (c .before .args .marks .now) (c .before .args .l) (c .if1 .taken)

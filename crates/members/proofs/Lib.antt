@@ -1,0 +1,2 @@
+-- Laws of the sizes and of the groups that changed.
+pub mod Tallies

@@ -1,0 +1,2 @@
+-- Groups whose members changed.
+pub mod Members
