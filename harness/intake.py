@@ -1,5 +1,5 @@
 #!/usr/bin/env python3
-"""Writes the cases that the program `intake_cases` runs: python3 harness/intake.py > crates/intake_cases/stdin
+"""Writes the cases that the program `test_intake` runs: python3 harness/intake.py > crates/test_intake/stdin
 
 Every expected answer is worked out here, by a check of its own on rows and columns, not by the project's code.
 """

@@ -1,5 +1,5 @@
 #!/usr/bin/env python3
-"""Writes the cases that the program `examples` runs: python3 harness/vectors.py > crates/examples/stdin
+"""Writes the cases that the program `test_examples` runs: python3 harness/vectors.py > crates/test_examples/stdin
 
 Every expected answer is worked out here, with Python's doubles and its correctly rounded math.sqrt, from the
 definitions as the papers give them (IEEE 754 for the root, Rousseeuw 1987 for the silhouette), not by the project's code.

@@ -1,6 +1,6 @@
 /*
  * The ONC grouping, the statistics, the check of a book in whole millionths and the draws of a round: what the crates `exports` (the grouping)
- * and `statistics_exports` (the others) have for C and C++. `bash bindings/build.sh` makes target/lib/libonc.a of their two static libraries.
+ * and `exports_statistics` (the others) have for C and C++. `bash bindings/build.sh` makes target/lib/libonc.a of their two static libraries.
  * The src/lib.rt of each has the contracts of its functions; all are proved.
  *
  * For every call:

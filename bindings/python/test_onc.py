@@ -135,10 +135,10 @@ class Grouping(Case):
 
 
 class Recorded(Case):
-    """The recorded runs of crates/replay_runs, which are the unchanged Rust's. The layout stands in harness/grouping/src/bin/record.rs."""
+    """The recorded runs of crates/test_runs, which are the unchanged Rust's. The layout stands in harness/grouping/src/bin/record.rs."""
 
     def test_recorded_runs(self):
-        with open(os.path.join(HERE, "..", "..", "crates", "replay_runs", "stdin")) as text:
+        with open(os.path.join(HERE, "..", "..", "crates", "test_runs", "stdin")) as text:
             words = [int(word, 16) for word in text.read().split()]
         at, groupings, refusals = 0, 0, 0
         double = lambda word: struct.unpack("<d", struct.pack("<Q", word))[0]

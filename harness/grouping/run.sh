@@ -1,20 +1,20 @@
 #!/usr/bin/env bash
 # Compares the proved library with the unchanged Rust: whole runs; the statistics, the intake check and the counts of draws. Runs it on a
-# small stack; times both sides; counts their instructions; records runs of the Rust; compares the cases of `examples` with the Rust; and
+# small stack; times both sides; counts their instructions; records runs of the Rust; compares the cases of `test_examples` with the Rust; and
 # compares what the grouping program prints.
 #   SOURCES=dir bash harness/grouping/run.sh runs [SEED] [BOOKS]
 #   SOURCES=dir bash harness/grouping/run.sh statistics [SEED] [CALLS]
 #   SOURCES=dir bash harness/grouping/run.sh stack [KIB]
 #   SOURCES=dir bash harness/grouping/run.sh time [RUNS]
 #   SOURCES=dir bash harness/grouping/run.sh count [NAMES]
-#   SOURCES=dir bash harness/grouping/run.sh record > crates/replay_runs/stdin
-#   SOURCES=dir bash harness/grouping/run.sh record-kinds > crates/replay_runs/kinds.txt
+#   SOURCES=dir bash harness/grouping/run.sh record > crates/test_runs/stdin
+#   SOURCES=dir bash harness/grouping/run.sh record-kinds > crates/test_runs/kinds.txt
 #   SOURCES=dir bash harness/grouping/run.sh vectors
 #   SOURCES=dir bash harness/grouping/run.sh texts [SEED] [TEXTS]
-#   SOURCES=dir bash harness/grouping/run.sh record-texts > crates/texts/stdin
+#   SOURCES=dir bash harness/grouping/run.sh record-texts > crates/test_texts/stdin
 # SOURCES names the folder with the Rust's onc.rs; VENDOR a folder of vendored crates (harness/oracle/README.md).
 # WORK is where all is built (target/harness); LIBRARIES the archives to link instead of those that `rt staticlib` writes of `exports`,
-# `statistics_exports` and `harness_exports`; PROGRAM the grouping program to run instead of the one that `rt check grouping` writes. `count`
+# `exports_statistics` and `harness_exports`; PROGRAM the grouping program to run instead of the one that `rt check grouping` writes. `count`
 # takes valgrind.
 set -euo pipefail
 case ${1:-} in runs | statistics | stack | time | count | record | record-kinds | vectors | texts | record-texts) ;; *) sed -n '2,18s/^# //p' "$0" && exit 2 ;; esac
@@ -36,7 +36,7 @@ case $1 in
     ;;
   vectors)
     build vectors
-    exec "$work/build/release/vectors" < crates/examples/stdin
+    exec "$work/build/release/vectors" < crates/test_examples/stdin
     ;;
   texts | record-texts)
     build texts
@@ -50,7 +50,7 @@ case $1 in
 esac
 if [ -z "${LIBRARIES:-}" ]; then
   LIBRARIES=
-  for crate in exports statistics_exports harness_exports; do
+  for crate in exports exports_statistics harness_exports; do
     rt staticlib $crate >&2
     LIBRARIES="$LIBRARIES $PWD/target/staticlib/lib$crate.a"
   done

@@ -2,7 +2,7 @@
 # Compares the proved k-means leaves with the unchanged Rust, times both, or records cases of the Rust.
 #   SOURCES=dir bash harness/kmeans/run.sh calls [SEED] [CALLS]
 #   SOURCES=dir bash harness/kmeans/run.sh time [RUNS]
-#   SOURCES=dir bash harness/kmeans/run.sh record > crates/replay/stdin
+#   SOURCES=dir bash harness/kmeans/run.sh record > crates/test_kmeans/stdin
 # SOURCES names the folder with the Rust's onc.rs; VENDOR a folder of vendored crates (harness/oracle/README.md).
 # WORK is where all is built (target/harness); LIBRARIES the archive to link instead of the one that `rt staticlib harness_exports` writes.
 set -euo pipefail

@@ -1,4 +1,4 @@
-//! The recorded runs of crates/replay_runs: every call but those that lend lists of wrong length, which this crate cannot make.
+//! The recorded runs of crates/test_runs: every call but those that lend lists of wrong length, which this crate cannot make.
 use onc::Grouper;
 
 /// The words of the text, read one after the other. The layout stands in harness/grouping/src/bin/record.rs.
@@ -27,7 +27,7 @@ fn bits(x: f64) -> u64 {
 
 #[test]
 fn recorded_runs() {
-    let text = std::fs::read_to_string(concat!(env!("CARGO_MANIFEST_DIR"), "/../../crates/replay_runs/stdin")).unwrap();
+    let text = std::fs::read_to_string(concat!(env!("CARGO_MANIFEST_DIR"), "/../../crates/test_runs/stdin")).unwrap();
     let all: Vec<u64> = text.split_whitespace().map(|w| u64::from_str_radix(w, 16).unwrap()).collect();
     let mut words = Words(all.into_iter());
     let mut grouper = Grouper::new();

@@ -5,8 +5,8 @@ use mathlib.Core.List.{List, _++_}
 use lib.ListN.{length, drop}
 use lib.Ieee.{Float}
 use Rattle.lists.specs.Lists.{numbers}
-use Rattle.columns.specs.Columns.{pointsAt}
-use Rattle.pairs.specs.Pairs.{pairsArea}
+use Rattle.distance_columns.specs.Columns.{pointsAt}
+use Rattle.areas.specs.Pairs.{pairsArea}
 use Rattle.draws.specs.Counts.{countOf}
 use Rattle.draws.specs.Draws.{Drawn}
 use Rattle.draws.specs.declared.Stop.{Stop}
@@ -20,7 +20,7 @@ use Rattle.choice.specs.declared.Kept.the-variants.{Nothing, Candidate}
 use Rattle.candidates.specs.declared.Searched as searched
 use Rattle.base.specs.Base.{BasedBy}
 use Rattle.base.specs.declared.Based.the-variants.{Done, Stopped}
-use Rattle.scoring.proofs.Laws.{book-points}
+use Rattle.silhouette_areas.proofs.Laws.{book-points}
 use Rattle.candidates.proofs.Answers.{searched-stopped, searched-nothing, searched-found}
 use Rattle.candidates.proofs.Laws.{best-same, best-took, Found}
 

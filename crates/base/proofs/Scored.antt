@@ -3,11 +3,11 @@ use Prim.Native.Nat.{ℕ, _<_}
 use mathlib.Core.Path.{_≡_, sym, _∙_, ap}
 use lib.Ieee.{Float}
 use Rattle.lists.specs.Lists.{numbers}
-use Rattle.scoring.specs.Scoring.{scoresOf}
+use Rattle.silhouette_areas.specs.Scoring.{scoresOf}
 use Rattle.partition.specs.Partition.{occupied, groupsOf, labelOf, State}
 use Rattle.candidates.specs.Candidates.{Candidate, found}
 use Rattle.base.specs.Base.{baseOf}
-use Rattle.scoring.proofs.Laws.{scores-ranked}
+use Rattle.silhouette_areas.proofs.Laws.{scores-ranked}
 use Rattle.partition.proofs.Ranks.{label-occupied, label-ranked}
 use Rattle.candidates.proofs.Laws.{Found}
 

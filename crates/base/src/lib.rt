@@ -36,7 +36,7 @@ fn best_of_book(
 {
     let m = rows.len();
     let four = 4 * (m * m);
-    pairs::book_pairs(book, n, rows, &mut area[..four]);
+    areas::book_pairs(book, n, rows, &mut area[..four]);
     candidates::best_candidate(area, m, repeat, draws, at, labels, scores)
 }
 

@@ -6,13 +6,13 @@ use native.Mathlib.Nat.{suc-mul, zero-mul}
 use native.Mathlib.Omega.{arith}
 use lib.ListN.{length, drop}
 use lib.Ieee.{Float}
-use Rattle.columns.specs.Pair.{squaredAt}
+use Rattle.distance_columns.specs.Pair.{squaredAt}
 use Rattle.draws.specs.Counts.{seedingOf, seedingsOf, countOf, tries}
 use Rattle.draws.proofs.Counting.{seedings-more}
 use Rattle.draws.proofs.Bad.{Reads, reads-map, then-reads}
-use Rattle.seeding.specs.Ranges.{OutOfRange}
-use Rattle.clustering.specs.Clustering.{kmeansOf}
-use Rattle.clustering.proofs.Bad.{kmeans-bad}
+use Rattle.plusplus.specs.Ranges.{OutOfRange}
+use Rattle.kmeans.specs.Clustering.{kmeansOf}
+use Rattle.kmeans.proofs.Bad.{kmeans-bad}
 use Rattle.candidates.specs.Candidates.{candidateOf, Best, nothing, keep, triesFrom, repeatsFrom, bestOf}
 use Rattle.candidates.specs.Ranges.{RoundOutOfRange}
 use Rattle.candidates.proofs.Laws.{count-is}

@@ -11,8 +11,8 @@ use lib.Ieee.{Float, inf, lt}
 use Rattle.draws.specs.Counts.{seedingOf, seedingsOf, countOf, tries}
 use Rattle.draws.specs.Draws.{Drawn, drawn, refused, andThen}
 use Rattle.draws.proofs.Taken.{Ends, Among}
-use Rattle.clustering.specs.Clustering.{Grouped, kmeansOf}
-use Rattle.clustering.proofs.Laws.{Took, kmeans-took}
+use Rattle.kmeans.specs.Clustering.{Grouped, kmeansOf}
+use Rattle.kmeans.proofs.Laws.{Took, kmeans-took}
 use Rattle.choice.specs.Replaces.{replaces}
 use Rattle.candidates.specs.Candidates.{Candidate, candidateOf, candidateFrom, Best, nothing, found, keep, triesFrom, repeatsFrom, bestOf}
 use Rattle.candidates.specs.Failed.{NoStat, NoStats}

@@ -13,9 +13,9 @@ use Rattle.lists.specs.Lists.{numbers}
 use Rattle.draws.specs.Counts.{seedingOf, seedingsOf, countOf, tries}
 use Rattle.draws.specs.Draws.{Drawn, drawn, refused, andThen}
 use Rattle.draws.proofs.Taken.{Ends, Among, behind, then-ends, then-behind, then-same, ends-map}
-use Rattle.clustering.specs.Clustering.{Grouped, kmeansOf}
-use Rattle.clustering.proofs.Laws.{Took, kmeans-took, kmeans-behind, kmeans-same}
-use Rattle.scoring.proofs.Laws.{scores-same}
+use Rattle.kmeans.specs.Clustering.{Grouped, kmeansOf}
+use Rattle.kmeans.proofs.Laws.{Took, kmeans-took, kmeans-behind, kmeans-same}
+use Rattle.silhouette_areas.proofs.Laws.{scores-same}
 use Rattle.choice.specs.Replaces.{replaces}
 use Rattle.candidates.specs.Candidates.{Candidate, candidate, candidateOf, candidateFrom, Best, nothing, found, keep, triesFrom, repeatsFrom, bestOf}
 

@@ -16,12 +16,12 @@ use Rattle.draws.specs.Draws.{Drawn, drawn, refused, andThen}
 use Rattle.draws.specs.declared.Stop.{Stop}
 use Rattle.draws.specs.declared.Stop.the-variants.{DrawOutOfRange}
 use Rattle.draws.proofs.Taken.{Ends, Among}
-use Rattle.passes.specs.declared.Ended.{Ended}
-use Rattle.clustering.specs.Clustering.{Grouped, kmeansOf}
-use Rattle.clustering.specs.Steps.{ClusteredBy}
-use Rattle.clustering.specs.declared.Clustered.the-variants as clustered
-use Rattle.clustering.proofs.Laws.{kmeans-done, kmeans-stopped}
-use Rattle.scoring.specs.Scoring.{scoresOf}
+use Rattle.lloyd_pass.specs.declared.Ended.{Ended}
+use Rattle.kmeans.specs.Clustering.{Grouped, kmeansOf}
+use Rattle.kmeans.specs.Steps.{ClusteredBy}
+use Rattle.kmeans.specs.declared.Clustered.the-variants as clustered
+use Rattle.kmeans.proofs.Laws.{kmeans-done, kmeans-stopped}
+use Rattle.silhouette_areas.specs.Scoring.{scoresOf}
 use Rattle.choice.specs.declared.Kept.{Kept}
 use Rattle.choice.specs.declared.Kept.the-variants.{Nothing, Candidate}
 use Rattle.choice.specs.Replaces.{replacesKept}

@@ -9,8 +9,8 @@ use Rattle.tstat.specs.Tstat.{tstatOf, plainMean}
 use Rattle.draws.specs.Counts.{seedingOf, tries, countOf}
 use Rattle.draws.specs.Draws.{Drawn, drawn, andThen}
 use Rattle.choice.specs.Replaces.{replaces}
-use Rattle.clustering.specs.Clustering.{kmeansOf}
-use Rattle.scoring.specs.Scoring.{scoresOf}
+use Rattle.kmeans.specs.Clustering.{kmeansOf}
+use Rattle.silhouette_areas.specs.Scoring.{scoresOf}
 
 -- a candidate: the label and the score of each item, the scores' t-stat and their plain mean
 pub record Candidate : Type 0 where

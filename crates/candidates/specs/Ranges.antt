@@ -2,9 +2,9 @@
 use Prim.Native.Nat.{ℕ, _+_, _-_, _*_, _<_, _≤_, max}
 use mathlib.Core.List.{List}
 use lib.Ieee.{Float}
-use Rattle.columns.specs.Pair.{squaredAt}
+use Rattle.distance_columns.specs.Pair.{squaredAt}
 use Rattle.draws.specs.Counts.{seedingsOf, countOf}
-use Rattle.seeding.specs.Ranges.{OutOfRange}
+use Rattle.plusplus.specs.Ranges.{OutOfRange}
 
 -- the draw at place p of `draws` is out of range for a round of m items, whose columns are x and whose first draw has the place `at`: for the seeding of
 -- some k centres in some repeat, which starts behind the repeats before it and the seedings of 2, 3, .., k - 1 centres

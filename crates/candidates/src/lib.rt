@@ -2,15 +2,15 @@
 ghost use mathlib.Core.Path.{_≡_};
 ghost use Prim.Native.Nat.{_≤_, _+_, _*_};
 ghost use lib.ListN.{length, take, drop};
-ghost use Rattle.columns.specs.Columns.{pointsAt};
+ghost use Rattle.distance_columns.specs.Columns.{pointsAt};
 ghost use Rattle.draws.specs.Counts.{seedingOf, tries, countOf};
-ghost use Rattle.seeding.specs.Seeding.{MaySeed};
-ghost use Rattle.scoring.specs.Scoring.{Prepared};
+ghost use Rattle.plusplus.specs.Seeding.{MaySeed};
+ghost use Rattle.silhouette_areas.specs.Scoring.{Prepared};
 ghost use Rattle.candidates.specs.Candidates.{candidateFrom, triesFrom, bestOf};
 ghost use Rattle.candidates.specs.Steps.{TriedBy, SearchedBy, Enough, Lists, bestFrom};
 use choice::Kept;
-use clustering::Clustered;
 use draws::Stop;
+use kmeans::Clustered;
 
 // The place of the next draw and what is kept; or what ends the run.
 pub enum Searched {
@@ -39,10 +39,10 @@ fn candidate(
     ensures { λ r. ⌜ TriedBy (candidateFrom (pointsAt (now (area .entry)) m) m k at (drop at (now (draws .entry)))) (at + seedingOf k) r (now (labels .exit)) (now (scores .exit)) ⌝ }
     ensures { λ _. ⌜ take (4 * (m * m)) (now (area .exit)) ≡ take (4 * (m * m)) (now (area .entry)) ⌝ }
 {
-    match clustering::labels_in(area, m, k, draws, at, labels) {
+    match kmeans::labels_in(area, m, k, draws, at, labels) {
         Clustered::Stopped(s) => Tried::Refused(s),
         Clustered::Done(next, _ended) => {
-            scoring::scores_in(area, m, labels, k, scores);
+            silhouette_areas::scores_in(area, m, labels, k, scores);
             let stat = tstat::tstat_value(scores);
             let mean = tstat::mean_of_value(scores);
             Tried::Made(next, stat, mean)

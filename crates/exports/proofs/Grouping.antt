@@ -13,7 +13,7 @@ use Rattle.onc_answers.specs.declared.Onc.{Onc}
 use Rattle.onc_answers.specs.Answers.{numberOf, placeOf, groupsOf, readOf, answerOf}
 use Rattle.onc_checks.specs.Checks.{shapeOf}
 use Rattle.onc_run.specs.Run.{Lists, Outcome}
-use Rattle.reports.proofs.Written.{places-are, refused-as}
+use Rattle.exports_reports.proofs.Written.{places-are, refused-as}
 use Rattle.exports.specs.Grouping.{groupingReported}
 
 -- a list that does not fit is refused, so the list for the answer has four places where the call is not refused

@@ -1,4 +1,4 @@
-// The grouping, as other languages call it. statistics_exports has the other calls for them.
+// The grouping, as other languages call it. exports_statistics has the other calls for them.
 ghost use mathlib.Core.Path.{_≡_};
 ghost use mathlib.Core.Bool.{false};
 ghost use lib.ListN.{length};
@@ -50,7 +50,7 @@ pub extern "C" fn onc_get_onc_clusters_with_draws(
           numbers = now (numbers .entry);
         }) ⌝ }
 {
-    let refused = reports::grouping_refused(repeat, rows, cols, book.len(), answer.len());
+    let refused = exports_reports::grouping_refused(repeat, rows, cols, book.len(), answer.len());
     if refused != 0 {
         return refused;
     }
@@ -67,5 +67,5 @@ pub extern "C" fn onc_get_onc_clusters_with_draws(
         floats,
         numbers,
     );
-    reports::report_grouping(a, answer)
+    exports_reports::report_grouping(a, answer)
 }

@@ -1,5 +1,5 @@
 // Reads a book, its repeats and its draws from standard input and prints its grouping, or the number by which it is refused.
-// crates/grouping_text/specs/Program.antt says what is printed for which text.
+// crates/text_program/specs/Program.antt says what is printed for which text.
 ghost use Prim.Native.Nat.{_<_};
 ghost use lib.ListN.{length};
 
@@ -22,7 +22,7 @@ fn answer_input(room: &mut [u8])
 // Prints the answer to a text.
 fn respond(text: &[u8]) {
     let mut out = io::buffer();
-    let written = grouping_text::answer_to(text, &mut out);
-    let count = text_answers::bytes_of(written);
+    let written = text_program::answer_to(text, &mut out);
+    let count = text_written::bytes_of(written);
     io::write_all(1, &out[..count]);
 }

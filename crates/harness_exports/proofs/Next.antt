@@ -5,14 +5,14 @@ use mathlib.Core.List.{List}
 use lib.Ieee.{Float}
 use Rattle.draws.specs.Draws.{Drawn, drawn, refused}
 use Rattle.draws.specs.declared.Stop.{Stop}
-use Rattle.seeding.specs.declared.Seeded as seeded
-use Rattle.seeding.specs.declared.Seeded.{Seeded}
-use Rattle.seeding.specs.Seeding.{SeededBy, answerOf}
-use Rattle.passes.specs.declared.Ended.{Ended}
-use Rattle.clustering.specs.Clustering.{kmeansOf}
-use Rattle.clustering.specs.Steps.{ClusteredBy}
-use Rattle.clustering.specs.declared.Clustered.the-variants.{Done, Stopped}
-use Rattle.clustering.proofs.Laws.{kmeans-done, kmeans-stopped}
+use Rattle.plusplus.specs.declared.Seeded as seeded
+use Rattle.plusplus.specs.declared.Seeded.{Seeded}
+use Rattle.plusplus.specs.Seeding.{SeededBy, answerOf}
+use Rattle.lloyd_pass.specs.declared.Ended.{Ended}
+use Rattle.kmeans.specs.Clustering.{kmeansOf}
+use Rattle.kmeans.specs.Steps.{ClusteredBy}
+use Rattle.kmeans.specs.declared.Clustered.the-variants.{Done, Stopped}
+use Rattle.kmeans.proofs.Laws.{kmeans-done, kmeans-stopped}
 use Rattle.harness_exports.specs.Next.{nextAfter}
 
 module _ (x : ℕ → ℕ → Float) (m k : ℕ) (z : 0 < m) (one-of : 0 < k) (at : ℕ) (ds : List ℕ) (next : ℕ) (old new : List ℕ) where

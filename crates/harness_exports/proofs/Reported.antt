@@ -13,7 +13,7 @@ use Rattle.refusals.proofs.Laws.{accepted}
 use Rattle.kmeans_answers.specs.declared.Kmeans.{Kmeans}
 use Rattle.kmeans_answers.specs.Answers.{numberOf, placeOf, refusalOf, readOf}
 use Rattle.kmeans_answers.specs.Leaf.{Leaf}
-use Rattle.reports.proofs.Written.{places-are, refused-as}
+use Rattle.exports_reports.proofs.Written.{places-are, refused-as}
 use Rattle.harness_exports.specs.Reported.{reportedOf}
 
 -- the list for the answer has three places where it is not refused

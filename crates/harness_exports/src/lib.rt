@@ -4,27 +4,27 @@ ghost use mathlib.Core.Path.{_≡_};
 ghost use Prim.Native.Nat.{ℕ, _<_, _≤_, _+_, _*_};
 ghost use lib.ListN.{length, take, drop};
 ghost use Rattle.sqrt.specs.Root.{root};
-ghost use Rattle.kmeans_centres.specs.Leaves.{plusPlusLeaf};
-ghost use Rattle.kmeans_passes.specs.Leaves.{lloydLeaf};
-ghost use Rattle.kmeans.specs.Leaves.{labelsLeaf};
+ghost use Rattle.kmeans_plus_plus.specs.Leaves.{plusPlusLeaf};
+ghost use Rattle.kmeans_lloyd.specs.Leaves.{lloydLeaf};
+ghost use Rattle.kmeans_labels.specs.Leaves.{labelsLeaf};
 ghost use Rattle.lists.specs.Lists.{cells, numbers};
 ghost use Rattle.tstat.specs.Tstat.{tstatOf};
 ghost use Rattle.distance.specs.Distance.{Readable, distAt};
-ghost use Rattle.columns.specs.Pair.{squaredAt};
-ghost use Rattle.columns.specs.Columns.{pointsAt};
-ghost use Rattle.pairs.specs.Pairs.{pairsArea};
+ghost use Rattle.distance_columns.specs.Pair.{squaredAt};
+ghost use Rattle.distance_columns.specs.Columns.{pointsAt};
+ghost use Rattle.areas.specs.Pairs.{pairsArea};
 ghost use Rattle.draws.specs.Counts.{seedingOf};
-ghost use Rattle.seeding.specs.Seeding as seeds;
-ghost use Rattle.seeding.specs.Seeding.{seeding, MaySeed};
-ghost use Rattle.passes.specs.Passes.{lloydLabels};
-ghost use Rattle.means.specs.Area.{Held, Centres};
-ghost use Rattle.clustering.specs.Clustering.{kmeansOf};
-ghost use Rattle.clustering.specs.Steps.{labelsAfter};
-ghost use Rattle.scoring.specs.Scoring.{scoresOf, Prepared};
+ghost use Rattle.plusplus.specs.Seeding as seeds;
+ghost use Rattle.plusplus.specs.Seeding.{seeding, MaySeed};
+ghost use Rattle.lloyd_pass.specs.Passes.{lloydLabels};
+ghost use Rattle.lloyd_table.specs.Area.{Held, Centres};
+ghost use Rattle.kmeans.specs.Clustering.{kmeansOf};
+ghost use Rattle.kmeans.specs.Steps.{labelsAfter};
+ghost use Rattle.silhouette_areas.specs.Scoring.{scoresOf, Prepared};
 ghost use Rattle.harness_exports.specs.Reported.{reportedOf};
 ghost use Rattle.harness_exports.specs.Next.{nextAfter};
-use clustering::Clustered;
-use seeding::Seeded;
+use kmeans::Clustered;
+use plusplus::Seeded;
 
 #[no_mangle]
 pub extern "C" fn onc_sqrt(x: f64) -> f64
@@ -54,12 +54,12 @@ pub extern "C" fn onc_kmeans_plus_plus(
     ensures { λ r. ⌜ record { number = r; answer = now (answer .exit); out = now (centres .exit); floats = now (floats .exit); numbers = now (numbers .exit) }
         ≡ reportedOf (length (now (points .entry))) n (plusPlusLeaf (now (points .entry)) n k (now (draws .entry)) (now (centres .entry)) (now (floats .entry)) (now (numbers .entry))) (now (answer .entry)) (now (centres .entry)) (now (floats .entry)) (now (numbers .entry)) ⌝ }
 {
-    let refused = kmeans_reports::kmeans_refused(points.len(), n, answer.len());
+    let refused = harness_reports::kmeans_refused(points.len(), n, answer.len());
     if refused != 0 {
         return refused;
     }
-    let a = kmeans_centres::kmeans_plus_plus(points, n, k, draws, centres, floats, numbers);
-    kmeans_reports::report_kmeans(a, answer)
+    let a = kmeans_plus_plus::kmeans_plus_plus(points, n, k, draws, centres, floats, numbers);
+    harness_reports::report_kmeans(a, answer)
 }
 
 #[no_mangle]
@@ -75,12 +75,12 @@ pub extern "C" fn onc_lloyd(
     ensures { λ r. ⌜ record { number = r; answer = now (answer .exit); out = now (labels .exit); floats = now (floats .exit); numbers = now (numbers .exit) }
         ≡ reportedOf (length (now (points .entry))) n (lloydLeaf (now (points .entry)) n (now (centres .entry)) (now (labels .entry)) (now (floats .entry)) (now (numbers .entry))) (now (answer .entry)) (now (labels .entry)) (now (floats .entry)) (now (numbers .entry)) ⌝ }
 {
-    let refused = kmeans_reports::kmeans_refused(points.len(), n, answer.len());
+    let refused = harness_reports::kmeans_refused(points.len(), n, answer.len());
     if refused != 0 {
         return refused;
     }
-    let a = kmeans_passes::lloyd(points, n, centres, labels, floats, numbers);
-    kmeans_reports::report_kmeans(a, answer)
+    let a = kmeans_lloyd::lloyd(points, n, centres, labels, floats, numbers);
+    harness_reports::report_kmeans(a, answer)
 }
 
 #[no_mangle]
@@ -97,12 +97,12 @@ pub extern "C" fn onc_kmeans_labels(
     ensures { λ r. ⌜ record { number = r; answer = now (answer .exit); out = now (labels .exit); floats = now (floats .exit); numbers = now (numbers .exit) }
         ≡ reportedOf (length (now (points .entry))) n (labelsLeaf (now (points .entry)) n k (now (draws .entry)) (now (labels .entry)) (now (floats .entry)) (now (numbers .entry))) (now (answer .entry)) (now (labels .entry)) (now (floats .entry)) (now (numbers .entry)) ⌝ }
 {
-    let refused = kmeans_reports::kmeans_refused(points.len(), n, answer.len());
+    let refused = harness_reports::kmeans_refused(points.len(), n, answer.len());
     if refused != 0 {
         return refused;
     }
-    let a = kmeans::kmeans_labels(points, n, k, draws, labels, floats, numbers);
-    kmeans_reports::report_kmeans(a, answer)
+    let a = kmeans_labels::kmeans_labels(points, n, k, draws, labels, floats, numbers);
+    harness_reports::report_kmeans(a, answer)
 }
 
 // What k-means reads of the points, worked out once for every k. Inner form.
@@ -111,7 +111,7 @@ pub extern "C" fn onc_prepare(points: &[f64], m: usize, area: &mut [f64])
     requires { ⌜ (2 ≤ m) × (m ≤ 256) × (length (now points) ≡ m * m) × (length (now area) ≡ 5 * (m * m)) ⌝ }
     ensures { λ _. ⌜ Held (now (area .exit)) m × (take (m * m) (now (area .exit)) ≡ now (points .entry)) ⌝ }
 {
-    clustering::prepare(points, m, area);
+    kmeans::prepare(points, m, area);
 }
 
 // The labels of the items in k groups; the place of the next draw, and 0 where a draw was out of range. Inner form.
@@ -129,7 +129,7 @@ pub extern "C" fn onc_labels_in(
         × (now (labels .exit) ≡ labelsAfter (kmeansOf (pointsAt (now (area .entry)) m) m k at (drop at (now (draws .entry)))) (now (labels .entry)))
         × (take (4 * (m * m)) (now (area .exit)) ≡ take (4 * (m * m)) (now (area .entry))) ⌝ }
 {
-    match clustering::labels_in(area, m, k, draws, at, labels) {
+    match kmeans::labels_in(area, m, k, draws, at, labels) {
         Clustered::Stopped(_stop) => 0,
         Clustered::Done(next, _ended) => next,
     }
@@ -141,7 +141,7 @@ pub extern "C" fn onc_book_pairs(book: &[f64], n: usize, rows: &[usize], area: &
     requires { ⌜ Readable (now book) n (now rows) × (0 < length (now rows)) × (length (now area) ≡ 4 * (length (now rows) * length (now rows))) ⌝ }
     ensures { λ _. ⌜ now (area .exit) ≡ pairsArea (distAt (now (book .entry)) n (now (rows .entry))) (length (now (rows .entry))) ⌝ }
 {
-    pairs::book_pairs(book, n, rows, area);
+    areas::book_pairs(book, n, rows, area);
 }
 
 // As many centres as the list holds; the place of the next draw, and 0 where a draw was out of range. Inner form.
@@ -158,7 +158,7 @@ pub extern "C" fn onc_seed_in(
     ensures { λ r. ⌜ (r ≡ nextAfter (at + seedingOf (length (now (centres .entry)))) (seeding (squaredAt (pointsAt (now (area .entry)) m) m) m (length (now (centres .entry))) at (drop at (now (draws .entry)))))
         × seeds.CentresAfter (seeding (squaredAt (pointsAt (now (area .entry)) m) m) m (length (now (centres .entry))) at (drop at (now (draws .entry)))) (now (centres .exit)) ⌝ }
 {
-    match clustering::seed_in(area, m, draws, at, centres, weights) {
+    match kmeans::seed_in(area, m, draws, at, centres, weights) {
         Seeded::Stopped(_stop) => 0,
         Seeded::Done(next) => next,
     }
@@ -186,7 +186,7 @@ pub extern "C" fn onc_scores_in(
     requires { ⌜ Prepared (now area) m × (length (now labels) ≡ m) × (length (now scores) ≡ m) × (k ≤ m) × ((i : ℕ) → i < m → numbers (now labels) i < k) ⌝ }
     ensures { λ _. ⌜ now (scores .exit) ≡ scoresOf (pointsAt (now (area .entry)) m) m (numbers (now (labels .entry))) ⌝ }
 {
-    scoring::scores_in(area, m, labels, k, scores);
+    silhouette_areas::scores_in(area, m, labels, k, scores);
 }
 
 // The t-statistic of the scores.

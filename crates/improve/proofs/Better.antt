@@ -6,10 +6,10 @@ use mathlib.Core.List.{List}
 use lib.ListN.{length}
 use lib.Ieee.{Float, lt}
 use Rattle.partition.specs.Partition.{Partition, State, labelOf}
-use Rattle.scoring.proofs.Laws.{scores-length}
+use Rattle.silhouette_areas.proofs.Laws.{scores-length}
 use Rattle.quality.specs.Quality.{qualitiesOf, weakMean}
-use Rattle.merging.specs.Merging.{weakItems, mergedOf}
-use Rattle.merging.proofs.Merged.{merged-partition}
+use Rattle.improve_merge.specs.Merging.{weakItems, mergedOf}
+use Rattle.improve_merge.proofs.Merged.{merged-partition}
 use Rattle.improve.specs.Improve.{rescored, meanQuality, betterOf}
 
 -- what holds of both holds of the one that is chosen

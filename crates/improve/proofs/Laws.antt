@@ -7,18 +7,18 @@ use lib.ListN.{drop}
 use lib.Ieee.{Float}
 use Rattle.lists.specs.Lists.{listed, numbers}
 use Rattle.lists.proofs.Listed.{getD-listed}
-use Rattle.columns.specs.Columns.{pointsAt}
-use Rattle.pairs.specs.Pairs.{pairsArea}
-use Rattle.scoring.specs.Scoring.{scoresOf}
+use Rattle.distance_columns.specs.Columns.{pointsAt}
+use Rattle.areas.specs.Pairs.{pairsArea}
+use Rattle.silhouette_areas.specs.Scoring.{scoresOf}
 use Rattle.partition.specs.Partition.{Partition, labelOf}
 use Rattle.partition.specs.Orders.{cut}
-use Rattle.merging.specs.Steps.{stateOf, PartitionLists, Merged}
+use Rattle.improve_merge.specs.Steps.{stateOf, PartitionLists, Merged}
 use Rattle.improve.specs.Improve.{rescored, meanQuality}
 use Rattle.improve.specs.Steps.{Improves}
-use Rattle.scoring.proofs.Laws.{book-points, scores-same}
+use Rattle.silhouette_areas.proofs.Laws.{book-points, scores-same}
 use Rattle.partition.proofs.Cuts.{cut-length}
 use Rattle.partition.proofs.Labels.{labels-below}
-use Rattle.merging.proofs.Laws.{merged-cut}
+use Rattle.improve_merge.proofs.Laws.{merged-cut}
 
 -- the scores of groups, worked out on the areas of their book
 pub book-scores : (x : ℕ → ℕ → Float) (m : ℕ) (area : List Float) {front : List Float} → front ≡ pairsArea x m → (gs : List (List ℕ)) {labels : List ℕ} {scores : List Float}

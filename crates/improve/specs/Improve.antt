@@ -2,11 +2,11 @@
 use Prim.Native.Nat.{ℕ}
 use mathlib.Core.List.{List}
 use lib.Ieee.{Float}
-use Rattle.scoring.specs.Scoring.{scoresOf}
+use Rattle.silhouette_areas.specs.Scoring.{scoresOf}
 use Rattle.partition.specs.Partition.{labelOf, State}
 use Rattle.quality.specs.Quality.{qualitiesOf, average, weakMean}
 use Rattle.choice.specs.Choice.{chosen}
-use Rattle.merging.specs.Merging.{mergedOf}
+use Rattle.improve_merge.specs.Merging.{mergedOf}
 
 -- groups of the m items whose columns are x, with the scores worked out afresh
 abbrev pub rescored : (ℕ → ℕ → Float) → ℕ → List (List ℕ) → State

@@ -6,7 +6,7 @@ use lib.ListN.{length}
 use lib.Ieee.{Float}
 use Rattle.distance.specs.Distance.{Readable}
 use Rattle.partition.specs.Partition.{State}
-use Rattle.merging.specs.Steps.{PartitionLists, Merged}
+use Rattle.improve_merge.specs.Steps.{PartitionLists, Merged}
 use Rattle.improve.specs.Improve.{meanQuality}
 
 -- a book, the groups of its items, and lists to work in

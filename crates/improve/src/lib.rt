@@ -3,11 +3,11 @@ ghost use mathlib.Core.Path.{_≡_};
 ghost use Prim.Native.Nat.{_*_};
 ghost use lib.ListN.{length};
 ghost use Rattle.distance.specs.Distance.{Readable, distAt};
-ghost use Rattle.scoring.specs.Scoring.{scoresOf};
+ghost use Rattle.silhouette_areas.specs.Scoring.{scoresOf};
 ghost use Rattle.partition.specs.Partition.{labelOf};
 ghost use Rattle.partition.specs.Orders.{cut, Sized};
-ghost use Rattle.merging.specs.Merging.{mergedOf};
-ghost use Rattle.merging.specs.Steps.{stateOf, Improvable};
+ghost use Rattle.improve_merge.specs.Merging.{mergedOf};
+ghost use Rattle.improve_merge.specs.Steps.{stateOf, Improvable};
 ghost use Rattle.improve.specs.Improve.{rescored, meanQuality};
 ghost use Rattle.improve.specs.Steps.{Scored, Improves};
 
@@ -34,9 +34,9 @@ fn rescore_with(
 {
     let m = rows.len();
     let four = 4 * (m * m);
-    pairs::book_pairs(book, n, rows, &mut area[..four]);
+    areas::book_pairs(book, n, rows, &mut area[..four]);
     partition::labels_from_clusters(order, sizes, count, labels);
-    scoring::scores_in(area, m, labels, count, scores);
+    silhouette_areas::scores_in(area, m, labels, count, scores);
 }
 
 // The same, without a list to work in.
@@ -111,7 +111,7 @@ pub fn improve_clusters(
         (mergedOf (stateOf count (now (sizes .entry)) (now (order .entry)) (now (scores .entry))) (cut inner (now («inner_sizes» .entry)) (now («inner_order» .entry)))))
         (length (now (rows .entry))) (r .groups) (r .mean) (now (out .exit)) (now (counts .exit)) (now («new_scores» .exit)) ⌝ }
 {
-    let groups = merging::merge(
+    let groups = improve_merge::merge(
         order,
         sizes,
         count,

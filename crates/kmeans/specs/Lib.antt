@@ -1,2 +1,3 @@
--- What the leaf of the labels gives and leaves (Leaves.antt), by the definitions of clustering/specs/Clustering.antt.
-pub mod Leaves
+-- k-means (Clustering.antt): k-means++ (plusplus/specs/Seeding.antt), then Lloyd's passes (lloyd_pass/specs/Passes.antt). Steps.antt has what the functions answer and leave.
+pub mod Clustering
+pub mod Steps

@@ -7,24 +7,24 @@ use native.Mathlib.Omega.{arith}
 use native.Mathlib.Numerals.{add-one}
 use lib.ListN.{length, replicate, take}
 use lib.Ieee.{Float, nan}
-use Rattle.passes.specs.Passes.{centroidsAt, distsOf, labelsAt, labelsOf, moved, nearest, convergesAt}
+use Rattle.lloyd_pass.specs.Passes.{centroidsAt, distsOf, labelsAt, labelsOf, moved, nearest, convergesAt}
 use borrow.Author.Tests.{lt-ltb, ne-eqb}
-use Rattle.nearest.specs.Nearest.{nearestTo, sameLabels}
-use Rattle.centroids.specs.Groups.{distances, mean}
-use Rattle.columns.specs.Pair.{squared}
+use Rattle.lloyd_nearest.specs.Nearest.{nearestTo, sameLabels}
+use Rattle.lloyd_mean.specs.Groups.{distances, mean}
+use Rattle.distance_columns.specs.Pair.{squared}
 use Rattle.lists.specs.Lists.{cellAt, cells, firstTo, listed, numbers}
 use Rattle.lists.specs.Sums.{groupSize, inGroup}
-use Rattle.columns.specs.Columns.{pointsAt}
-use Rattle.nearest.proofs.Steps.{nearest-same}
-use Rattle.centroids.proofs.Members.{distances-agree, mean-same, size-same}
+use Rattle.distance_columns.specs.Columns.{pointsAt}
+use Rattle.lloyd_nearest.proofs.Steps.{nearest-same}
+use Rattle.lloyd_mean.proofs.Members.{distances-agree, mean-same, size-same}
 use Rattle.lists.proofs.First.{first-found, first-more}
 use Rattle.lists.proofs.Sums.{fold-none}
 use Rattle.lists.proofs.Listed.{getD-listed, listed-const, listed-same}
-use Rattle.means.specs.Area.{Kept, Table, tableRow}
+use Rattle.lloyd_table.specs.Area.{Kept, Table, tableRow}
 use Rattle.lloyd.specs.Result.{After, LloydResult}
-use Rattle.means.proofs.Rows.{points-kept}
-use Rattle.passes.specs.declared.Ended.{Ended}
-use Rattle.passes.specs.declared.Ended.the-variants.{PassLimit, Converged}
+use Rattle.lloyd_table.proofs.Rows.{points-kept}
+use Rattle.lloyd_pass.specs.declared.Ended.{Ended}
+use Rattle.lloyd_pass.specs.declared.Ended.the-variants.{PassLimit, Converged}
 
 -- the nearest by the table are the nearest by the centroids
 module _ (x : ℕ → ℕ → Float) (area : List Float) (m k : ℕ) (centroid : ℕ → ℕ → Float) (w : Table area m k x centroid) where

@@ -1,13 +1,13 @@
--- What the passes leave in the labels and in the table, and what a call answers: by passes/specs/Passes.antt, in the list of means/specs/Area.antt. Definitions only.
+-- What the passes leave in the labels and in the table, and what a call answers: by lloyd_pass/specs/Passes.antt, in the list of lloyd_table/specs/Area.antt. Definitions only.
 use Prim.Native.Nat.{ℕ}
 use mathlib.Core.Path.{_≡_}
 use mathlib.Core.List.{List}
 use lib.ListN.{length}
 use lib.Ieee.{Float}
 use Rattle.lists.specs.Lists.{numbers}
-use Rattle.means.specs.Area.{Table}
-use Rattle.passes.specs.declared.Ended.{Ended}
-use Rattle.passes.specs.Passes.{centroidsAt, labelsAt, lloydLabels, lloydEnded}
+use Rattle.lloyd_table.specs.Area.{Table}
+use Rattle.lloyd_pass.specs.declared.Ended.{Ended}
+use Rattle.lloyd_pass.specs.Passes.{centroidsAt, labelsAt, lloydLabels, lloydEnded}
 
 -- the labels and the table after t passes
 pub record After (x : ℕ → ℕ → Float) (m : ℕ) (centres : List ℕ) (t : ℕ) (labels : List ℕ) (area : List Float) : Type 0 where

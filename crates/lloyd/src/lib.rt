@@ -5,10 +5,10 @@
 ghost use mathlib.Core.Path.{_≡_};
 ghost use Prim.Native.Nat.{_*_};
 ghost use lib.ListN.{length, take};
-ghost use Rattle.columns.specs.Columns.{pointsAt};
-ghost use Rattle.means.specs.Area.{Held, Centres};
+ghost use Rattle.distance_columns.specs.Columns.{pointsAt};
+ghost use Rattle.lloyd_table.specs.Area.{Held, Centres};
 ghost use Rattle.lloyd.specs.Result.{After, LloydResult};
-use passes::Ended;
+use lloyd_pass::Ended;
 
 // Passes until one changes no label, at most 300.
 fn run(
@@ -27,11 +27,11 @@ fn run(
 {
     let k = centres.len();
     for t in 0..300usize {
-        passes::assign_in(area, k, dists, fresh);
-        if nearest::same_labels(labels, fresh) {
+        lloyd_pass::assign_in(area, k, dists, fresh);
+        if lloyd_nearest::same_labels(labels, fresh) {
             return Ended::Converged;
         }
-        passes::refresh(area, labels, fresh, k, dists, sums);
+        lloyd_pass::refresh(area, labels, fresh, k, dists, sums);
         lists::copy_numbers(fresh, labels);
     }
     Ended::PassLimit
@@ -45,7 +45,7 @@ pub fn lloyd_in(area: &mut [f64], m: usize, centres: &[usize], labels: &mut [usi
     ensures { λ r. ⌜ LloydResult (pointsAt (now (area .entry)) m) m (now (centres .entry)) r (now (labels .exit)) ⌝ }
     ensures { λ _. ⌜ take (4 * (m * m)) (now (area .exit)) ≡ take (4 * (m * m)) (now (area .entry)) ⌝ }
 {
-    means::first_table(area, m, centres);
+    lloyd_table::first_table(area, m, centres);
     lists::fill_numbers(labels, centres.len());
     let mut fresh = lists::number_buffer();
     let mut dists = lists::row_buffer();

@@ -10,7 +10,7 @@ use lib.Ieee.{Float}
 use Rattle.refusals.specs.Table.{Refusal}
 use Rattle.draws.specs.declared.Stop.the-variants.{Rounds, Short, DrawOutOfRange, ClusteringFailed}
 use Rattle.partition.specs.Partition.{has}
-use Rattle.rounds.specs.Round.{Run, done, ended}
+use Rattle.round.specs.Round.{Run, done, ended}
 use Rattle.onc_answers.specs.declared.Onc.{Onc}
 use Rattle.onc_answers.specs.Answers.{Answer, numberOf, answerOf, refusing}
 use Rattle.onc_checks.specs.Checks.{listsFit, shapeOf}

@@ -24,12 +24,12 @@ use Rattle.candidates.specs.Ranges.{RoundOutOfRange}
 use Rattle.candidates.proofs.Laws.{Found, best-took}
 use Rattle.candidates.proofs.Bad.{best-bad}
 use Rattle.candidates.proofs.Failed.{best-none}
-use Rattle.rounds.specs.Round.{Run, done, ended, needOf, totalOf}
+use Rattle.round.specs.Round.{Run, done, ended, needOf, totalOf}
 use Rattle.partition.proofs.Cuts.{cut-joined, groups-few, partition-length}
 use Rattle.partition.proofs.Labels.{label-is, member-below}
 use Rattle.base.proofs.Scored.{Scored}
-use Rattle.rounds.proofs.Runs.{Whole, ScoredRun}
-use Rattle.rounds.proofs.Spends.{ReachedFrom, start, further, BadDraw, NoCandidate, Spends, searchOf as searchFrom, draws-none, draws-more, draws-one}
+use Rattle.round.proofs.Runs.{Whole, ScoredRun}
+use Rattle.round.proofs.Spends.{ReachedFrom, start, further, BadDraw, NoCandidate, Spends, searchOf as searchFrom, draws-none, draws-more, draws-one}
 use Rattle.onc_run.specs.Run.{Lists, Outcome, runOf, finalOf, ran}
 use Rattle.onc_run.proofs.Runs.{all, all-length, run-spends, run-whole, run-scored}
 use Rattle.onc.specs.Onc.{groupOf}

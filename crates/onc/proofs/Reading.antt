@@ -14,8 +14,8 @@ use Rattle.draws.specs.Draws.{drawn}
 use Rattle.draws.specs.declared.Stop.the-variants.{Rounds, Short, DrawOutOfRange, ClusteringFailed}
 use Rattle.partition.specs.Partition.{State}
 use Rattle.candidates.specs.Candidates.{found}
-use Rattle.rounds.specs.Round.{Run, done, ended, needOf, totalOf}
-use Rattle.rounds.proofs.Spends.{Spends}
+use Rattle.round.specs.Round.{Run, done, ended, needOf, totalOf}
+use Rattle.round.proofs.Spends.{Spends}
 use Rattle.onc_run.specs.Run.{Lists, Outcome, runOf, finalOf, ran}
 use Rattle.onc.specs.Onc.{shape, groupOf}
 use Rattle.onc.specs.Demands.{Cause, no-repeat, not-square, few-rows, many-rows, many-repeats, cell-count, list-length, outputs, labelsIn, roundsOf, AsLong, Counted, EndsBy, Tells, Demand3}

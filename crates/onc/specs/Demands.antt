@@ -9,7 +9,7 @@ use lib.Ieee.{Float}
 use Rattle.lists.specs.Lists.{listed, numbers, cellAt}
 use Rattle.refusals.specs.Table.{none, wiped, wipedNumbers}
 use Rattle.distance.specs.Distance.{distAt}
-use Rattle.scoring.specs.Scoring.{scoresOf}
+use Rattle.silhouette_areas.specs.Scoring.{scoresOf}
 use Rattle.draws.specs.Draws.{Drawn, drawn, refused}
 use Rattle.draws.specs.declared.Stop.the-variants.{Rounds, Short, DrawOutOfRange, ClusteringFailed}
 use Rattle.partition.specs.Partition.{Partition, State, has, groupAt, labelOf, joined}
@@ -19,9 +19,9 @@ use Rattle.candidates.specs.Ranges.{RoundOutOfRange}
 use Rattle.candidates.specs.Failed.{NoStats}
 use Rattle.quality.specs.Quality.{qualitiesOf, weakCount}
 use Rattle.base.specs.Base.{baseOf}
-use Rattle.merging.specs.Merging.{weakItems}
-use Rattle.rows.specs.Rows.{rowsOf}
-use Rattle.rounds.specs.Round.{Run, done, ended, needOf, totalOf}
+use Rattle.improve_merge.specs.Merging.{weakItems}
+use Rattle.row_numbers.specs.Rows.{rowsOf}
+use Rattle.round.specs.Round.{Run, done, ended, needOf, totalOf}
 use Rattle.onc_answers.specs.Answers.{Answer, refusing}
 use Rattle.onc_checks.specs.Checks.{listsFit}
 use Rattle.onc_run.specs.Run.{Lists, Outcome, Limits, runOf, ran}

@@ -7,7 +7,7 @@ use lib.Dec.{eqb}
 use lib.ListN.{length}
 use lib.Ieee.{Float}
 use Rattle.refusals.specs.Table.{Refusal}
-use Rattle.rounds.specs.Round.{Run}
+use Rattle.round.specs.Round.{Run}
 use Rattle.onc_answers.specs.Answers.{refusing}
 use Rattle.onc_checks.specs.Checks.{listsFit, shapeOf}
 use Rattle.onc_run.specs.Run.{Lists, Outcome, runOf, ran}

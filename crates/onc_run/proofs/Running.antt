@@ -13,11 +13,11 @@ use Rattle.lists.proofs.Parts.{drop-behind}
 use Rattle.refusals.specs.Table.{workDoubles, workNumbers, wiped, wipedNumbers}
 use Rattle.distance.specs.Distance.{through}
 use Rattle.draws.specs.declared.Stop.{Stop}
-use Rattle.top.specs.declared.Top.{Top}
-use Rattle.top.specs.declared.Top.the-variants.{Done, Stopped as Ended}
-use Rattle.rounds.specs.Round.{Run, done, ended, roundOf}
-use Rattle.top.specs.Steps.{Ready, RoundLeaves, topOf, orderAfter, sizesAfter, scoresAfter}
-use Rattle.rounds.proofs.Runs.{Whole}
+use Rattle.round_top.specs.declared.Top.{Top}
+use Rattle.round_top.specs.declared.Top.the-variants.{Done, Stopped as Ended}
+use Rattle.round.specs.Round.{Run, done, ended, roundOf}
+use Rattle.round_top.specs.Steps.{Ready, RoundLeaves, topOf, orderAfter, sizesAfter, scoresAfter}
+use Rattle.round.proofs.Runs.{Whole}
 use Rattle.onc_answers.specs.declared.Onc.the-variants.{Grouped, Stopped}
 use Rattle.onc_answers.specs.Answers.{answerOf}
 use Rattle.onc_run.specs.Run.{Lists, Outcome, Limits, runOf, ran}

@@ -8,9 +8,9 @@ use lib.Ieee.{Float}
 use Rattle.lists.specs.Lists.{listed}
 use Rattle.lists.proofs.Listed.{length-listed}
 use Rattle.distance.specs.Distance.{distAt}
-use Rattle.rounds.specs.Round.{roundOf}
-use Rattle.rounds.proofs.Runs.{Whole, whole, ScoredRun, scored}
-use Rattle.rounds.proofs.Spends.{Spends, spends}
+use Rattle.round.specs.Round.{roundOf}
+use Rattle.round.proofs.Runs.{Whole, whole, ScoredRun, scored}
+use Rattle.round.proofs.Spends.{Spends, spends}
 use Rattle.onc_run.specs.Run.{runOf}
 
 -- the rows of the first round

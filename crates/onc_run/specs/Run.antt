@@ -11,7 +11,7 @@ use Rattle.distance.specs.Distance.{through}
 use Rattle.draws.specs.Stops.{stopNumber, stopPlace}
 use Rattle.partition.specs.Partition.{joined}
 use Rattle.partition.specs.Orders.{sizesOf}
-use Rattle.rounds.specs.Round.{Run, done, ended, roundOf}
+use Rattle.round.specs.Round.{Run, done, ended, roundOf}
 use Rattle.onc_answers.specs.Answers.{Answer, refusing}
 
 -- the lists that a call is lent: four outputs, two to work in

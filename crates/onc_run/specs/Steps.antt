@@ -5,9 +5,9 @@ use mathlib.Core.List.{List}
 use lib.ListN.{drop}
 use lib.Ieee.{Float}
 use Rattle.refusals.specs.Table.{workDoubles, workNumbers}
-use Rattle.top.specs.declared.Top.{Top}
-use Rattle.rounds.specs.Round.{Run}
-use Rattle.top.specs.Steps.{topOf, orderAfter, sizesAfter, scoresAfter}
+use Rattle.round_top.specs.declared.Top.{Top}
+use Rattle.round.specs.Round.{Run}
+use Rattle.round_top.specs.Steps.{topOf, orderAfter, sizesAfter, scoresAfter}
 
 -- what the rounds leave
 pub record Ran (r : Run) (n : ℕ) (a : Top) (order order′ sizes sizes′ : List ℕ) (scores scores′ floats floats′ : List Float) (numbers numbers′ : List ℕ) : Type 0 where

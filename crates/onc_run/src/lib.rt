@@ -7,7 +7,7 @@ ghost use Rattle.onc_answers.specs.Answers.{answerOf};
 ghost use Rattle.onc_run.specs.Run.{Limits, runOf, ran};
 ghost use Rattle.onc_run.specs.Steps.{Ran};
 use onc_answers::Onc;
-use top::Top;
+use round_top::Top;
 
 // 0, 1, 2, and so on.
 fn count_up(xs: &mut [usize])
@@ -36,7 +36,7 @@ fn run(
         (now (scores .entry)) (now (scores .exit)) (now (floats .entry)) (now (floats .exit)) (now (numbers .entry)) (now (numbers .exit)) ⌝ }
 {
     count_up(&mut numbers[..n]);
-    top::cluster_kmeans_top(
+    round_top::cluster_kmeans_top(
         book,
         n,
         repeat,

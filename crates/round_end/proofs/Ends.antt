@@ -16,9 +16,9 @@ use Rattle.partition.proofs.Cuts.{cut-order, cut-length}
 use Rattle.quality.specs.Quality.{qualitiesOf, weakMean}
 use Rattle.choice.specs.Choice.{chosen}
 use Rattle.choice.proofs.Laws.{chosen-ap}
-use Rattle.merging.specs.Merging.{weakItems, mergedOf}
+use Rattle.improve_merge.specs.Merging.{weakItems, mergedOf}
 use Rattle.improve.specs.Improve.{rescored, meanQuality, betterOf}
-use Rattle.merging.specs.Steps.{stateOf, WeakListed, Improvable}
+use Rattle.improve_merge.specs.Steps.{stateOf, WeakListed, Improvable}
 use Rattle.improve.specs.Steps.{Improves}
 use Rattle.round_end.specs.Steps.{InnerEnded, RoundEnded}
 

@@ -1,5 +1,5 @@
 -- What the functions of the end of a round ask and leave. Definitions only.
--- The round's lists are laid out as crates/storing/specs/Steps.antt says: rows, order and sizes of the base in the numbers, n places each; its
+-- The round's lists are laid out as crates/round_lists/specs/Steps.antt says: rows, order and sizes of the base in the numbers, n places each; its
 -- scores at the front of the doubles, and the areas at left * n.
 use Prim.Native.Nat.{ℕ, _+_, _*_, _≤_}
 use mathlib.Core.Path.{_≡_}
@@ -10,8 +10,8 @@ use Rattle.lists.specs.Lists.{part}
 use Rattle.distance.specs.Distance.{Readable}
 use Rattle.partition.specs.Partition.{State, joined}
 use Rattle.partition.specs.Orders.{sizesOf, cut}
-use Rattle.merging.specs.Merging.{weakItems}
-use Rattle.merging.specs.Steps.{stateOf, Improvable}
+use Rattle.improve_merge.specs.Merging.{weakItems}
+use Rattle.improve_merge.specs.Steps.{stateOf, Improvable}
 
 -- a round whose inner round has ended: its base stands in its places, and the inner partition of `inner` groups at the front of the outputs
 pub record InnerEnded (book : List Float) (n left count inner w : ℕ) (order sizes : List ℕ) (scores : List Float) (wi : List ℕ) (wf : List Float) : Type 0 where

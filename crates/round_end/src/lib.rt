@@ -6,7 +6,7 @@ ghost use Rattle.lists.specs.Lists.{part};
 ghost use Rattle.distance.specs.Distance.{distAt};
 ghost use Rattle.partition.specs.Orders.{cut};
 ghost use Rattle.improve.specs.Improve.{betterOf};
-ghost use Rattle.merging.specs.Steps.{stateOf};
+ghost use Rattle.improve_merge.specs.Steps.{stateOf};
 ghost use Rattle.round_end.specs.Steps.{InnerEnded, WorkLists, RoundEnded};
 
 // The better of the round's base, of `count` groups, and the partition in which the inner one, of `inner` groups, stands for its weak groups. The
@@ -43,7 +43,13 @@ fn end_with(
     let off = left * n;
     let end = off + 5 * (m * m);
     lists::copy(&wf[..m], old_scores);
-    let weak = merging::weak_items(&wi[n..second], &wi[from..third], count, old_scores, items);
+    let weak = improve_merge::weak_items(
+        &wi[n..second],
+        &wi[from..third],
+        count,
+        old_scores,
+        items,
+    );
     let improved = improve::improve_clusters(
         book,
         n,

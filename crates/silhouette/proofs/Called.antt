@@ -17,10 +17,10 @@ use Rattle.lists.proofs.Parts.{drop-behind}
 use Rattle.refusals.specs.Table.{numberOf, refusalOf, refusal, Refusal, workDoubles, wiped}
 use Rattle.refusals.specs.declared.Answer.{Answer}
 use Rattle.refusals.proofs.Laws.{accepted}
-use Rattle.scores.specs.Scores.{silhouette}
+use Rattle.silhouette_scores.specs.Scores.{silhouette}
 use Rattle.silhouette.specs.Leaf.{scoreAt, listsFit}
-use Rattle.scores.specs.Groups.{distance, Shape, scoresAcross}
-use Rattle.scores.proofs.Least.{score-same}
+use Rattle.silhouette_scores.specs.Groups.{distance, Shape, scoresAcross}
+use Rattle.silhouette_scores.proofs.Least.{score-same}
 use Rattle.lists.proofs.Tests.{both}
 
 -- The pair distances transposed, at the front of the working list.

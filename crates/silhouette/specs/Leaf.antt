@@ -7,7 +7,7 @@ use lib.ListN.{length}
 use lib.Ieee.{Float}
 use Rattle.lists.specs.Lists.{listed, numbers, cellAt, firstFrom}
 use Rattle.refusals.specs.Table.{refusal, workDoubles, Worked, worked}
-use Rattle.scores.specs.Scores.{silhouette}
+use Rattle.silhouette_scores.specs.Scores.{silhouette}
 
 -- the score of item i, from the n by n pair distances and the labels
 unfoldable pub scoreAt : List Float → ℕ → List ℕ → ℕ → Float

@@ -4,7 +4,7 @@ ghost use Prim.Native.Nat.{ℕ, _<_, _≤_, _*_};
 ghost use lib.ListN.{length};
 ghost use Rattle.lists.specs.Lists.{listed, numbers};
 ghost use Rattle.refusals.specs.Table.{refusalOf, workDoubles, wiped};
-ghost use Rattle.scores.specs.Groups.{Shape, scoresAcross};
+ghost use Rattle.silhouette_scores.specs.Groups.{Shape, scoresAcross};
 ghost use Rattle.silhouette.specs.Leaf.{scoreAt, listsFit, silhouettesOf};
 
 // The score of each item, with lists of its own to work in.
@@ -16,7 +16,7 @@ fn score_across(across: &[f64], n: usize, labels: &[usize], scores: &mut [f64])
 {
     let mut sums = lists::row_buffer();
     let mut own = lists::row_buffer();
-    scores::scores_by_label(across, labels, n, scores, &mut sums[..n], &mut own[..n]);
+    silhouette_scores::scores_by_label(across, labels, n, scores, &mut sums[..n], &mut own[..n]);
 }
 
 // The same from the pair distances; the working list is left zero at its front.

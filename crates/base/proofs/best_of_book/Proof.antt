@@ -7,7 +7,7 @@ use lib.Seq.{length-take-le}
 use lib.Ieee.{Float}
 use borrow.Author.Needs.{needs}
 use Rattle.distance.specs.Distance.{distAt}
-use Rattle.scoring.proofs.Laws.{book-round}
+use Rattle.silhouette_areas.proofs.Laws.{book-round}
 use Rattle.base.proofs.Laws.{book-searched}
 use Rattle.base.proofs.best_of_book.Statement.{statement}
 use Rattle.base.proofs.best_of_book.Tie as tie

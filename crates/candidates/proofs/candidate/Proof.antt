@@ -5,14 +5,14 @@ use lib.ListN.{drop}
 use lib.Ieee.{Float}
 use borrow.Author.Needs.{needs}
 use Rattle.draws.specs.Counts.{seedingOf}
-use Rattle.clustering.specs.declared.Clustered.the-variants as clustered
-use Rattle.clustering.specs.Steps.{ClusteredBy}
-use Rattle.clustering.specs.Clustering.{kmeansOf}
+use Rattle.kmeans.specs.declared.Clustered.the-variants as clustered
+use Rattle.kmeans.specs.Steps.{ClusteredBy}
+use Rattle.kmeans.specs.Clustering.{kmeansOf}
 use Rattle.lists.specs.Lists.{numbers}
-use Rattle.scoring.specs.Scoring.{scoresOf}
-use Rattle.columns.specs.Columns.{pointsAt}
-use Rattle.clustering.proofs.Laws.{kmeans-done}
-use Rattle.scoring.proofs.Laws.{points-stay, round-kept}
+use Rattle.silhouette_areas.specs.Scoring.{scoresOf}
+use Rattle.distance_columns.specs.Columns.{pointsAt}
+use Rattle.kmeans.proofs.Laws.{kmeans-done}
+use Rattle.silhouette_areas.proofs.Laws.{points-stay, round-kept}
 use Rattle.candidates.proofs.Turns.{candidate-made, candidate-refused}
 use Rattle.candidates.proofs.candidate.Statement.{statement}
 use Rattle.candidates.proofs.candidate.Tie as tie

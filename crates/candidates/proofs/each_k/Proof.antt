@@ -6,8 +6,8 @@ use lib.Ieee.{Float}
 use borrow.Author.Needs.{needs}
 use Rattle.draws.specs.Counts.{countOf, seedingOf, seedingsOf, tries}
 use Rattle.candidates.specs.Steps.{Lists, SearchedBy, bestFrom}
-use Rattle.columns.specs.Columns.{pointsAt}
-use Rattle.scoring.proofs.Laws.{points-stay, round-kept}
+use Rattle.distance_columns.specs.Columns.{pointsAt}
+use Rattle.silhouette_areas.proofs.Laws.{points-stay, round-kept}
 use Rattle.candidates.specs.Candidates.{triesFrom}
 use Rattle.candidates.proofs.Turns.{left-more, left-none, lists-stay, tries-none, turn-done, turn-stopped}
 use Rattle.candidates.proofs.Laws.{count-is, tries-few}

@@ -6,8 +6,8 @@ use lib.Ieee.{Float}
 use borrow.Author.Needs.{needs}
 use Rattle.draws.specs.Counts.{countOf, tries}
 use Rattle.candidates.specs.Steps.{Lists, SearchedBy, bestFrom}
-use Rattle.columns.specs.Columns.{pointsAt}
-use Rattle.scoring.proofs.Laws.{points-stay, round-kept}
+use Rattle.distance_columns.specs.Columns.{pointsAt}
+use Rattle.silhouette_areas.proofs.Laws.{points-stay, round-kept}
 use Rattle.candidates.specs.Candidates.{bestOf, nothing, repeatsFrom, triesFrom}
 use Rattle.candidates.proofs.Turns.{lists-stay, repeat-done, repeat-stopped, repeats-end, repeats-left, repeats-none}
 use Rattle.candidates.proofs.Answers.{done-by, stopped-by}

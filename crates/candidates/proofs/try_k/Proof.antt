@@ -7,7 +7,7 @@ use borrow.Author.Needs.{needs}
 use Rattle.draws.specs.Counts.{seedingOf}
 use Rattle.choice.specs.Replaces.{replaces, replacesKept}
 use Rattle.candidates.specs.Steps.{TriedBy, bestFrom}
-use Rattle.columns.specs.Columns.{pointsAt}
+use Rattle.distance_columns.specs.Columns.{pointsAt}
 use Rattle.candidates.specs.Candidates.{candidate, candidateFrom}
 use Rattle.candidates.proofs.Turns.{try-new, try-old, try-refused}
 use Rattle.candidates.specs.declared.Tried.the-variants.{Made, Refused}

@@ -6,11 +6,11 @@ use native.Mathlib.Omega.{arith}
 use lib.ListN.{length}
 use lib.Seq.{length-take-le}
 use borrow.Author.Needs.{needs}
-use Rattle.grouping_text.specs.Program.{programOf}
-use Rattle.text_answers.specs.Answers.{bytesOf, refusalOf}
-use Rattle.answer_text.specs.Answer.{Writing, refusalFits, writtenOf}
-use Rattle.answer_text.proofs.Front.{in-front, refusal-fits}
-use Rattle.text_answers.specs.declared.Written.{Written}
+use Rattle.text_program.specs.Program.{programOf}
+use Rattle.text_written.specs.Answers.{bytesOf, refusalOf}
+use Rattle.text_answer.specs.Answer.{Writing, refusalFits, writtenOf}
+use Rattle.text_answer.proofs.Front.{in-front, refusal-fits}
+use Rattle.text_written.specs.declared.Written.{Written}
 use Rattle.grouping.proofs.respond.Statement.{statement}
 use Rattle.grouping.proofs.respond.Tie as tie
 

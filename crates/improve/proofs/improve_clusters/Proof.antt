@@ -5,7 +5,7 @@ use lib.ListN.{length}
 use lib.Ieee.{Float}
 use borrow.Author.Needs.{needs}
 use Rattle.distance.specs.Distance.{distAt}
-use Rattle.merging.proofs.Laws.{merged-parted, parts}
+use Rattle.improve_merge.proofs.Laws.{merged-parted, parts}
 use Rattle.improve.proofs.Laws.{improves}
 use Rattle.improve.proofs.improve_clusters.Statement.{statement}
 use Rattle.improve.proofs.improve_clusters.Tie as tie

@@ -10,7 +10,7 @@ use Rattle.distance.specs.Distance.{distAt}
 use Rattle.lists.specs.Lists.{listed}
 use Rattle.partition.specs.Partition.{labelOf}
 use Rattle.partition.specs.Orders.{cut}
-use Rattle.scoring.proofs.Laws.{book-round}
+use Rattle.silhouette_areas.proofs.Laws.{book-round}
 use Rattle.improve.proofs.Laws.{book-labels, book-scores}
 use Rattle.improve.proofs.rescore_with.Statement.{statement}
 use Rattle.improve.proofs.rescore_with.Tie as tie

@@ -3,7 +3,7 @@ use native.Mathlib.Omega.{arith}
 use lib.Seq.{length-take-le}
 use borrow.Author.Needs.{needs}
 use Rattle.lloyd.proofs.Rounds.{after-none, after-now, clustered-now}
-use Rattle.means.proofs.Rows.{held-kept}
+use Rattle.lloyd_table.proofs.Rows.{held-kept}
 use Rattle.lloyd.proofs.lloyd_in.Statement.{statement}
 use Rattle.lloyd.proofs.lloyd_in.Tie as tie
 

@@ -2,13 +2,13 @@ use Prim.Native.Nat.{_*_, _-_, _≤_}
 use mathlib.Core.Path.{_∙_, _≡_, refl, sym}
 use native.Mathlib.Omega.{arith}
 use lib.ListN.{length, take}
-use Rattle.passes.specs.Passes.{convergesAt}
+use Rattle.lloyd_pass.specs.Passes.{convergesAt}
 use Rattle.lists.specs.Lists.{firstTo, numbers}
-use Rattle.columns.specs.Columns.{pointsAt}
+use Rattle.distance_columns.specs.Columns.{pointsAt}
 use Rattle.lists.proofs.Listed.{listed-length}
 use Rattle.lloyd.specs.Result.{After}
 use Rattle.lloyd.proofs.Rounds.{after-dists, after-labels, after-more, has-converged, go-on, kept-now, run-out, table-now}
-use Rattle.means.proofs.Rows.{held-kept}
+use Rattle.lloyd_table.proofs.Rows.{held-kept}
 use Rattle.lloyd.proofs.run.Statement.{statement}
 use Rattle.lloyd.proofs.run.Tie as tie
 

@@ -1,7 +1,7 @@
-//! Writes the runs that the program `replay_runs` runs: run.sh record > crates/replay_runs/stdin
+//! Writes the runs that the program `test_runs` runs: run.sh record > crates/test_runs/stdin
 //! Groupings are the unchanged Rust's with these draws; 7, 8 and 9 are where its draws or its rounds end; 1, 2, 4, 5 and 6 are the table's.
-//! The layout stands in crates/replay_runs/src/main.rt. With the argument `kinds` it writes the table of the kinds instead, each with its number
-//! and how many runs it has: run.sh record-kinds > crates/replay_runs/kinds.txt
+//! The layout stands in crates/test_runs/src/main.rt. With the argument `kinds` it writes the table of the kinds instead, each with its number
+//! and how many runs it has: run.sh record-kinds > crates/test_runs/kinds.txt
 use grouping_harness::books::{made_up, named, of_kind, pairs, KINDS};
 use grouping_harness::call::{bits, by_rust, expected, silence, Answer, Call};
 use kmeans_harness::books::matrix;

@@ -1,6 +1,6 @@
 //! Texts for the grouping program, proper and damaged. Usage: see run.sh.
 //!   texts texts [SEED] [TEXTS]   runs PROGRAM on texts until TEXTS of them (10000) were changed; compares what it prints; the status is 0 if none differs
-//!   texts record-texts           writes texts with what must be printed, for the program `texts`; the layout stands in crates/texts/src/main.rt
+//!   texts record-texts           writes texts with what must be printed, for the program `test_texts`; the layout stands in crates/test_texts/src/main.rt
 //! What must be printed is the unchanged Rust's answer where a plain reading by lines finds the text in the layout, and refusal 11 elsewhere.
 use grouping_harness::books::made_up;
 use grouping_harness::call::{by_rust, silence};

@@ -1,5 +1,5 @@
-//! Puts the cases of the program `examples` through the unchanged Rust: run.sh vectors. The status is 0 if none differs but those below.
-//! Standard input has the cases, in the layout of crates/examples/src/main.rt. Every case that is not refused is compared, bit for bit, all
+//! Puts the cases of the program `test_examples` through the unchanged Rust: run.sh vectors. The status is 0 if none differs but those below.
+//! Standard input has the cases, in the layout of crates/test_examples/src/main.rt. Every case that is not refused is compared, bit for bit, all
 //! NaNs as one; refusals are the table's, and the leaves of the Rust have none.
 use grouping_harness::call::bits;
 use kmeans_harness::books::matrix;

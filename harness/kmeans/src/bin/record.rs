@@ -1,6 +1,6 @@
-//! Writes the cases that the program `replay` runs: run.sh record > crates/replay/stdin
+//! Writes the cases that the program `test_kmeans` runs: run.sh record > crates/test_kmeans/stdin
 //! Centres, labels and 8 are the unchanged Rust's with these draws; 2, 4, 5, 6, 7, 10 and 29 are the table's.
-//! The layout stands in crates/replay/src/main.rt.
+//! The layout stands in crates/test_kmeans/src/main.rt.
 use kmeans_harness::books::{distances, Book, BOOKS};
 use kmeans_harness::draws::{in_range, limit, Draws};
 use kmeans_harness::leaf::{expected, need, silence, Call, Leaf, LEAVES};

@@ -1,9 +1,0 @@
-use mathlib.Core.Path.{refl}
-use Rattle.examples.proofs.many.Statement.{statement}
-use Rattle.examples.proofs.many.Tie as tie
-
-returns : tie.Need-returns
-returns c = refl
-
-pub many-spec : {M : Type 1} → statement M
-many-spec = tie.close (tie.spec returns)

@@ -1,2 +1,0 @@
--- What the leaf of the centres gives and leaves (Leaves.antt), by the definition of seeding/specs/Seeding.antt.
-pub mod Leaves

@@ -1,0 +1,2 @@
+-- Laws of the leaf of the labels.
+pub mod Laws

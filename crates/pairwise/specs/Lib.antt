@@ -1,2 +1,0 @@
--- Distances between the rows of a matrix. One pair is in columns/specs/Pair.antt; Leaves.antt says what each call gives and leaves.
-pub mod Leaves

@@ -1,0 +1,28 @@
+-- A draw that ends the search for a centre is not below 2 ^ 53 where the total is above 0, and else not below m, where there are draws enough.
+use Prim.Native.Nat.{ℕ, _+_, _-_, _<_, _≤_}
+use mathlib.Core.List.{List}
+use native.Mathlib.Omega.{arith}
+use lib.ListN.{length, drop}
+use lib.Ieee.{Float}
+use Rattle.lists.specs.Lists.{cells}
+use Rattle.lists.specs.Sums.{sumTo}
+use Rattle.draws.specs.Draws.{takes, one}
+use Rattle.draws.proofs.Bad.{Reads, Above, reads-map, then-reads, takes-bad}
+use Rattle.plusplus_pick.specs.Potentials.{limit, trial}
+use Rattle.plusplus_trials.specs.Trials.{against, bestTrial, nextOf}
+
+pub next-bad : (q : ℕ → ℕ → Float) (m t : ℕ) → 0 < t → (ws : List Float) (draws : List ℕ) (at : ℕ) → at + t ≤ length draws
+    → Reads draws (at + t) (Above (limit (sumTo (cells ws) m) m) at t draws) (nextOf q m t ws at (drop at draws))
+unfolding bestTrial
+next-bad q m t some ws draws at l =
+    let total = sumTo (cells ws) m in
+    let most = limit total m in
+    then-reads draws (at + 1) (at + t) (Above most at 1 draws) (Above most at t draws)
+    (one most at (drop at draws)) (λ d rest. takes most (against q (cells ws) total m) (t - 1) (trial q (cells ws) total m d) (at + 1) rest)
+    (takes-bad most (λ s d. d) draws 1 0 at (omega arith))
+    (λ d e.
+    reads-map draws (at + 1 + (t - 1)) (at + t) (Above most (at + 1) (t - 1) draws) (Above most at t draws)
+    (takes most (against q (cells ws) total m) (t - 1) (trial q (cells ws) total m d) (at + 1) (drop (at + 1) draws))
+    (takes-bad most (against q (cells ws) total m) draws (t - 1) (trial q (cells ws) total m d) (at + 1) (omega arith))
+    (omega arith) (λ p b. (omega (arith, b .0), omega (arith, b .1), b .2)))
+    (λ p b. (b .0, omega (arith, b .1), b .2))

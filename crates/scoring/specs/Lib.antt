@@ -1,2 +1,0 @@
--- The scores of the items of a round (Scoring.antt); one item's score is in scores/specs/Scores.antt.
-pub mod Scoring

@@ -1,3 +1,0 @@
--- The centres of k-means++: the definition, and what `seed` asks and gives (Seeding.antt); which draws are out of range (Ranges.antt). One centre more is in trials/specs/Trials.antt, and one trial of it in potentials/specs/Potentials.antt.
-pub mod Seeding
-pub mod Ranges

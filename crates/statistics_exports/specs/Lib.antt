@@ -1,2 +1,0 @@
--- The draws of a round, for every number of names. What the statistics and the check of a book give and leave is in reports/specs.
-pub mod Draws

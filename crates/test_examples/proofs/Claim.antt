@@ -1,0 +1,17 @@
+-- Every example of the table holds. antt computes each definition at its question.
+use mathlib.Core.Path.{refl}
+use lib.Ieee.{ofBits, toBits, ofInt, add, sub, mul, div, lt, le, eq, isNan}
+use Rattle.lists.specs.Lists.{listed, firstTo, firstFrom}
+use Rattle.refusals.specs.Table.{when, unless, refusal}
+use Rattle.lists.specs.Sums.{sumTo, allTo, foldIf}
+use Rattle.sqrt.specs.Root.{root}
+use Rattle.stats.specs.Average.{constant, exactMean, varianceAbout, varianceOf, averaged}
+use Rattle.tstat.specs.Tstat.{ratio, tstatOf}
+use Rattle.silhouette_scores.specs.Scores.{least, scoreOf, scoreFrom}
+use Rattle.silhouette.specs.Leaf.{scoreAt}
+use Rattle.draws.specs.Counts.{seedingsOf, countOf}
+use Rattle.test_examples.specs.Starred.{table, AllHold, answer, given}
+
+pub examples-hold : AllHold table
+unfolding AllHold answer given listed firstTo firstFrom when unless refusal sumTo allTo foldIf root constant exactMean varianceAbout varianceOf averaged ratio tstatOf least scoreOf scoreFrom scoreAt seedingsOf countOf ofBits toBits ofInt add sub mul div lt le eq isNan
+examples-hold = (refl, (refl, (refl, (refl, (refl, (refl, (refl, (refl, (refl, (refl, (refl, (refl, (refl, (refl, (refl, (refl, (refl, tt)))))))))))))))))

@@ -1,0 +1,44 @@
+-- A recorded call of `get_onc_clusters_with_draws`, and whether it answers and leaves what is recorded. Definitions only.
+use Prim.Native.Nat.{ℕ, _+_, _/_}
+use mathlib.Core.Bool.{Bool, _&&_}
+use mathlib.Core.List.{List}
+use lib.ListN.{length, replicate}
+use lib.Ieee.{Float}
+use Rattle.test_words.specs.Words.{doublesFrom, wordsFrom}
+use Rattle.test_compared.specs.Compared.{seven, namesWiped, leftLists}
+use Rattle.test_counts.specs.Counting.{countsBy}
+use Rattle.onc_run.specs.Run.{Lists, Outcome}
+use Rattle.onc.specs.Onc.{groupOf}
+use Rattle.test_counts.specs.declared.Counts.{Counts}
+use Rattle.test_run_cases.specs.declared.Case.{Case}
+use Rattle.test_run_cases.specs.Cases.{caseAt, sameAnswer, sameOutputs}
+
+-- whether the run answers and leaves what is recorded
+unfoldable pub rightRun : List ℕ → Case → Outcome → Bool
+rightRun text c o =
+    sameAnswer text (c .expected) (o .answer)
+    && (sameOutputs text c (o .lists .order) (o .lists .sizes) (o .lists .scores) (o .lists .ordered)
+    && leftLists (namesWiped (o .answer .refused .number) (c .rows)) (o .lists .floats) (o .lists .numbers))
+
+-- the lists that are lent, of the case's lengths
+abbrev pub lentTo : Case → Lists
+lentTo c =
+    record {
+      order = replicate (c .order) 999;
+      sizes = replicate (c .sizes) 999;
+      scores = replicate (c .scores) seven;
+      ordered = replicate (c .ordered) seven;
+      floats = replicate (c .floats) seven;
+      numbers = replicate (c .numbers) 999;
+    }
+
+unfoldable pub rightLists : List ℕ → Case → List Float → List ℕ → Bool
+rightLists text c cells draws = rightRun text c (groupOf cells (c .rows) (c .cols) (c .repeat) draws (lentTo c))
+
+-- the same, on the cells and the draws that the text has after the twelve words at `at`
+unfoldable pub rightCase : List ℕ → ℕ → Case → Bool
+rightCase text at c = rightLists text c (doublesFrom text (at + 12) (c .cells)) (wordsFrom text (at + 12 + c .cells) (c .draws))
+
+-- the cases of a text, and how many of them are answered otherwise
+unfoldable pub countsIn : List ℕ → Counts
+countsIn text = countsBy (caseAt text) (λ c. c .next) (rightCase text) (length text / 17)

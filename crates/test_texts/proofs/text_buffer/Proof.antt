@@ -1,0 +1,11 @@
+use Prim.Native.Nat.{ℕ}
+use mathlib.Core.Path.{sym}
+use lib.ListN.{length-replicate}
+use Rattle.test_texts.proofs.text_buffer.Statement.{statement}
+use Rattle.test_texts.proofs.text_buffer.Tie as tie
+
+returns : tie.Need-returns
+returns c = sym (length-replicate {A = ℕ} 524288 0)
+
+pub text-buffer-spec : {M : Type 1} → statement M
+text-buffer-spec = tie.close (tie.spec returns)
