@@ -1,5 +1,5 @@
 #!/usr/bin/env bash
-# Builds the library and tests it from C, Rust and Python; the last line says that all passed.
+# Builds the library and tests it from C, Rust and Python, and runs the commands of README.md and docs/CALLS.md; the last line says that all passed.
 #   bash bindings/test.sh
 # LIBRARY names an archive with all the functions, to use instead of the one that bindings/build.sh makes; CC the C compiler (cc); PYTHON the
 # interpreter (python3).
@@ -76,5 +76,8 @@ cd ../..
 echo "== Python"
 export ONC_LIBRARY=$shared
 (cd bindings/python && "${PYTHON:-python3}" -m unittest)
+
+echo "== the commands of README.md and docs/CALLS.md"
+env -u ONC_LIBRARY "${PYTHON:-python3}" bindings/snippets.py README.md docs/CALLS.md
 
 echo "C, Rust and Python: all passed"

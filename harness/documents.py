@@ -1,6 +1,10 @@
 #!/usr/bin/env python3
-"""Checks what docs/REVIEW.md names: that each file is there and has the names that stand behind it, each contract and
-edit, and each kind of case; and that the paths which the other documents name are there.
+"""Looks up what the documents name.
+
+docs/REVIEW.md: each file is there and defines the names that stand behind it, each contract and edit is there, each kind of case, and each sentence
+that is quoted. docs/READING.md: both ways, each crate stands in the map with its line of crates.txt and each file of definitions in the reading order,
+and each crate, file and name on the page is there. README.md and the other documents: their paths are there, and each name in backticks stands in a
+source.
 
     python3 harness/documents.py
 """
@@ -19,7 +23,7 @@ def text(path):
 
 
 def below(folder):
-    return [os.path.join(d, f) for d, _, fs in os.walk(folder) for f in fs]
+    return sorted(os.path.join(d, f) for d, _, fs in os.walk(folder) for f in fs)
 
 
 def has(where, ok, what):
@@ -33,13 +37,32 @@ def named(path, name):
     return re.search(r"(?<![\w-])" + re.escape(name) + r"(?![\w-])", text(path)) is not None
 
 
+def defined(path, name):
+    """Whether a file of definitions or a source defines a name, as a function, a type, a case, a field or a parameter; another file has it."""
+    plain, name = name, re.escape(name)
+    if path.endswith(".antt"):
+        return re.search(rf"^ *(?:(?:pub|abbrev|unfoldable|opaque|record|data) )*{name}(?= :| \(| \{{)", text(path), re.M) is not None
+    if path.endswith(".rt"):
+        enums = "".join(re.findall(r"^pub enum \w+ \{\n.*?^\}", text(path), re.M | re.S))
+        return bool(re.search(rf"\b(?:fn|struct|enum|const) {name}\b|(?<![\w.]){name}: ", text(path)) or re.search(rf"^    {name}\b", enums, re.M))
+    return named(path, plain)
+
+
+def cells(line):
+    return [cell.strip() for cell in line.strip().strip("|").split("|")]
+
+
 cases = "".join(text(p) for p in below("harness") if p.endswith((".rs", ".py")))
 sources = {c: "".join(text(p) for p in below(f"crates/{c}/src")) for c in os.listdir("crates")}
+lines = dict(re.findall(r"^# (\w+): (.*)\n\1:", text("crates.txt"), re.M))
+kit = {"io", "libc"}
 
 for number, line in enumerate(text("docs/REVIEW.md").splitlines(), 1):
     if not line.startswith("|"):
         continue
     where = f"docs/REVIEW.md:{number}"
+    for document, sentence in re.findall(r'(README\.md|docs/\w+\.md) "([^"]+)"', line):
+        has(where, sentence in text(document), f"{document} does not say: {sentence}")
     for part in re.split(r"[;|]", line):
         part = part.strip()
         path = re.match(r"((?:[\w.+-]+/)+[\w.+-]+\.(?:antt|rt|rs|py|sh|md|h|txt))\b", part)
@@ -48,7 +71,7 @@ for number, line in enumerate(text("docs/REVIEW.md").splitlines(), 1):
             has(where, os.path.exists(full), f"no file {path.group(1)}")
             if os.path.exists(full):
                 for name in re.findall(r"`([^`]+)`", part):
-                    has(where, named(full, name), f"{full} has no {name}")
+                    has(where, defined(full, name), f"{full} does not define {name}")
         for name, crate in re.findall(r"`([\w]+)` \((\w+)\)", part if re.match(r"contract of|edit|`", part) else ""):
             if part.startswith("edit"):
                 has(where, os.path.exists(f"crates/{crate}/must-fail/{name}.edit"), f"no edit {name} ({crate})")
@@ -58,11 +81,55 @@ for number, line in enumerate(text("docs/REVIEW.md").splitlines(), 1):
         for name in re.findall(r'"([^"]+)"', part) if part.startswith("case") else []:
             has(where, f'"{name}' in cases, f"no case {name}")
 
+# the map and the reading order, both ways
+mapped, read, heads = {}, set(), []
+page = text("docs/READING.md")
+for number, line in enumerate(page.splitlines(), 1):
+    where = f"docs/READING.md:{number}"
+    if not line.startswith("|") or line.startswith("|--"):
+        continue
+    row = cells(line)
+    if row[:2] == ["Layer", "Crate"] or row[-1] in ("Read by", "Names", "Paper"):
+        heads = row
+    elif heads[1] == "Crate":
+        mapped[row[1].strip("`")] = row[2]
+        has(where, lines.get(row[1].strip("`")) == row[2], f"{row[1]} has another line in crates.txt")
+    elif heads[-1] == "Read by":
+        for crate in re.findall(r"`(\w+)`", " ".join(row[-2:])):
+            has(where, crate in lines, f"no crate {crate}")
+    elif heads[-1] == "Names":
+        path = "crates/" + row[1]
+        read.add(path)
+        has(where, os.path.exists(path), f"no file {row[1]}")
+        for name in re.findall(r"`([^`]+)`", row[2]) if os.path.exists(path) else []:
+            has(where, defined(path, name), f"{row[1]} does not define {name}")
+for word in re.findall(r"[a-z]+(?:_[a-z]+)+", page.split("```")[1]):
+    has("docs/READING.md, the picture", word in lines, f"no crate {word}")
+for crate in sorted(set(lines) | set(os.listdir("crates"))):
+    has("docs/READING.md", crate in mapped and crate in lines and os.path.isdir(f"crates/{crate}"), f"crate {crate} is not in the map, crates.txt and crates/")
+for path in below("crates"):
+    if re.fullmatch(r"crates/(?!test_|harness_)\w+/specs/(?!Lib|Steps)\w+\.antt", path):
+        has("docs/READING.md", path in read, f"{path} is not in the reading order")
+
+# paths, and names in backticks, of the other documents
+words = set()
+for folder in ("crates", "bindings", "harness", "include"):
+    for path in below(folder):
+        if not path.endswith(("stdin", "stdout", ".so", ".a")):
+            words.update(re.findall(r"[\w-]+", text(path)), re.findall(r"\w+", text(path)), [os.path.basename(path).split(".")[0]])
+words.update(lines, kit)
 for document in ["README.md"] + [p for p in below("docs") if p != "docs/REVIEW.md"]:
     for number, line in enumerate(text(document).splitlines(), 1):
+        where = f"{document}:{number}"
         for path in re.findall(r"(?<![\w/.<-])(?:crates|harness|docs|bindings|include)/[\w/.+-]*\w", line):
             if "/NAME" not in path:
-                has(f"{document}:{number}", os.path.exists(path), f"no {path}")
+                has(where, os.path.exists(path), f"no {path}")
+        if document == "docs/CHANGES.md":
+            continue
+        for name in re.findall(r"`([A-Za-z_][\w-]*)`", line):
+            # a suffix, and a name with f or g in it for a function's, stand for many names
+            some = name in words or name.startswith("_") and any(w.endswith(name) for w in words)
+            has(where, some or re.search(r"\b[fg]\b", name), f"nothing is called {name}")
 
 for fault in faults:
     print(fault)

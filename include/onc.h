@@ -46,7 +46,7 @@ typedef char onc_size_t_has_64_bits[sizeof(size_t) == 8 ? 1 : -1];
 #define ONC_FLOATS(n) (8 * (size_t)(n) * (size_t)(n) + 256 * (size_t)(n))
 #define ONC_NUMBERS(n) (320 * (size_t)(n))
 
-/* An index draw is below the number of its round's names, a share draw below this. */
+/* An index draw is below the number of its round's names, a share draw below this, and means itself over this. */
 #define ONC_SHARE_LIMIT (UINT64_C(1) << 53)
 
 /*
@@ -60,7 +60,7 @@ enum onc_number {
     ONC_INVALID_CORRELATION_MATRIX = 2, /* rows and cols differ, or under 2 rows */
     ONC_TOO_LARGE = 4,                  /* over 256 rows, over 64 repeats, or an average of over 65,536 values */
     ONC_CELL_COUNT = 5,                 /* the cells are not n * n */
-    ONC_LIST_LENGTH = 6,                /* an output list of wrong length, or a working list that is too short */
+    ONC_LIST_LENGTH = 6,                /* an output list or `answer` of wrong length, or a working list that is too short */
     ONC_GROUP_COUNT = 29,               /* a group count outside 2..n, handed to a k-means leaf */
     ONC_OUT_OF_RANGE = 10,              /* a label, centre or row number of n or more, handed to a leaf; place: the first of them */
     ONC_INVALID_GROUPING = 30,          /* a grouping handed in with a name missing or twice, or sizes with a gap or not n in all */
@@ -78,14 +78,18 @@ enum onc_number {
  *
  *   book      read; n * n cells of a correlation matrix, row by row
  *   repeat    1 to 64
- *   draws     read from the front; 32 * repeat * onc_draws_for(n) are always enough
+ *   draws     read from the front; 32 * repeat * onc_draws_for(n) are always enough. A round of m names reads, for each repeat and each number of groups
+ *             k from 2 to max(m - 1, 2), first an index, below m, then shares, below ONC_SHARE_LIMIT, some for each of k - 1 further centres; indexes
+ *             in their place where the names' least squared distances to a centre do not sum to more than 0. Zeros are in range everywhere and are
+ *             for trying out. Random numbers below n everywhere give poor groupings: as shares they are next to 0. docs/CALLS.md says how
+ *             proper draws are made.
  *   order     n row numbers
  *   sizes     n numbers
  *   scores    n doubles
  *   ordered   n * n doubles
  *   floats    to work in; at least 8 * n * n + 256 * n doubles (ONC_FLOATS)
  *   numbers   to work in; at least 320 * n numbers (ONC_NUMBERS)
- *   answer    4 numbers: number, place, groups, draws read
+ *   answer    4 numbers, which are what is returned: number, place, groups, draws read
  *
  * Returns the number, which answer[0] has too. Afterwards:
  *
@@ -93,8 +97,8 @@ enum onc_number {
  *               scores: the silhouette of each name, by row number. ordered: the book with rows and columns in that order.
  *               answer: 0, 0, the groups, the draws read.
  *   9, 7, 8, 3  order, sizes, scores and ordered as they were. answer: the number, its place, 0, 0.
- *   1, 2, 4, 5, 6  every list as it was but for answer: the number, 0, 0, 0. An answer whose length is not 4 is as it was too, and the number
- *               is 1, 2, 4, 5 or 6 in that order.
+ *   1, 2, 4, 5, 6  every list as it was. answer, which is what is returned and no output: the number, 0, 0, 0. An answer whose length is not 4 is as it
+ *               was too, and the number is 1, 2, 4, 5 or 6 in that order.
  *
  * After 0, 9, 7, 8 and 3 the first 8 * n * n + 256 * n doubles of `floats` and the first 320 * n numbers of `numbers` are zero, and what lies
  * behind them is as it was.
@@ -123,7 +127,7 @@ uint64_t onc_draws_for(size_t names);
  *
  *   values    read; at most 65,536 doubles
  *   average   1 double
- *   answer    2 numbers: number, how many averages there are
+ *   answer    2 numbers, which are what is returned: number, how many averages there are
  *
  * Returns the number. Afterwards:
  *
@@ -154,7 +158,7 @@ size_t onc_std_dev(
  * cell equal to its mirror.
  *
  *   cells     read; n * n whole numbers, row by row
- *   answer    2 numbers: number, place
+ *   answer    2 numbers, which are what is returned: number, place
  *
  * Returns the number. Afterwards:
  *

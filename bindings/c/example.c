@@ -17,6 +17,7 @@ int main(void) {
         0.125, 0.125, 1.0,   0.875,
         0.125, 0.125, 0.875, 1.0,
     };
+    /* zeros are for trying out: onc.h says which draw is an index and which a share */
     const uint64_t draws[DRAWS] = {0};
     size_t order[N], sizes[N], labels[N], answer[ONC_ANSWER_LENGTH];
     double scores[N], ordered[N * N];

@@ -8,6 +8,7 @@ book = [
     [0.125, 0.125, 1.0, 0.875],
     [0.125, 0.125, 0.875, 1.0],
 ]
+# zeros are for trying out: random_draws.py makes proper draws
 grouping = onc.group(book, draws=[0] * onc.draws_for(4), names=["A", "B", "C", "D"])
 print("names {} groups {} draws {}".format(len(grouping.order), len(grouping.groups), grouping.draws_read))
 for number, members in enumerate(grouping.groups):

@@ -263,8 +263,10 @@ def group(book, draws, repeat: int = 1, names=None) -> Grouping:
 
     book: a correlation matrix of 2 to 256 names, as a list of rows, or as a buffer of doubles or floats with one dimension (row by row) or two.
     NaN and infinite cells are taken. A buffer of integers is refused by a TypeError: it may be a book in millionths.
-    draws: the random draws as a list or a buffer of whole numbers. Each is an index, below the names of its round, or a share, below 2**53 and
-    meaning itself over 2**53; 0 and 1 are always in range. draws_enough says how many are always enough.
+    draws: the random draws as a list or a buffer of whole numbers. For each number of groups of a round the first is an index, below the names of
+    the round; those behind it are shares, below 2**53 and meaning themselves over 2**53. draws_enough says how many are always enough. Zeros, in
+    range everywhere, are for trying out; random numbers below the number of names everywhere give poor groupings. random_draws.py beside this file
+    makes proper ones.
     repeat: 1 to 64. names: one for each row, each once; without them the names are 0, 1, ..
     """
     rows, cols, cells = _matrix(book, *_DOUBLES)

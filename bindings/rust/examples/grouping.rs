@@ -10,6 +10,7 @@ fn main() -> Result<(), Box<dyn std::error::Error>> {
         0.125, 0.125, 0.875, 1.0,
     ];
     let count = draws_for(names.len(), 1).ok_or("not 2 to 256 names")?;
+    // zeros are for trying out: the documentation of the call says which draw is an index and which a share
     let draws = vec![0; usize::try_from(count)?];
     let grouping = get_onc_clusters_with_draws(&book, names.len(), names.len(), 1, &draws)?;
     println!("names {} groups {} draws {}", grouping.names(), grouping.len(), grouping.draws_read());

@@ -1,5 +1,5 @@
-// Distances between m points of m columns each. The work is done in one list of four areas of m by m cells: the points,
-// their transpose, the squared pair distances, and the pair distances.
+// The areas of a round's list of doubles, m by m cells each. Four are filled here: the points, which are m items of m columns, their
+// transpose, the squared pair distances, and the pair distances. The fifth, the table of Lloyd's passes, is filled by lloyd_table.
 ghost use mathlib.Core.Path.{_≡_};
 ghost use Prim.Native.Nat.{_<_, _≤_, _+_, _-_, _*_};
 ghost use lib.ListN.{length, take};
@@ -102,7 +102,7 @@ fn root_all(area: &mut [f64], m: usize)
     }
 }
 
-// The second and the third area, from the points in the first: what k-means reads. Inner form.
+// The second and the third area, from the points in the first: what k-means reads. Inner form. The fourth is left with anything.
 pub fn squares_in(area: &mut [f64], m: usize)
     requires { ⌜ Area (now area) m ⌝ }
     ensures { λ _. ⌜ Turned (now (area .exit)) m × Summed (now (area .exit)) m × (take (m * m) (now (area .exit)) ≡ take (m * m) (now (area .entry))) ⌝ }

@@ -1,4 +1,5 @@
--- The base of a round: the groups of its best candidate, and what `cluster_kmeans_base` asks and leaves. Definitions only.
+-- The base of a round: the groups of its best candidate, and what `cluster_kmeans_base` asks and leaves. López de Prado, MLAM (2020) section 4.4, snippet 4.1
+-- (base clustering). Definitions only.
 use Prim.Native.Nat.{ℕ}
 use mathlib.Core.Path.{_≡_}
 use mathlib.Core.List.{List}

@@ -1,4 +1,4 @@
--- A double and its bits. Definitions only.
+-- A double and its bits, in the binary64 format of IEEE 754. Definitions only.
 use Prim.Native.Nat.{ℕ}
 use lib.Ieee.{Float, ofBits, toBits, binary64}
 

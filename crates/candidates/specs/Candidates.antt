@@ -1,4 +1,5 @@
--- The candidates of a round of m items, and the best of them; x i c is item i's column c, its distance to item c. Definitions only.
+-- The candidates of a round of m items, and the best of them. López de Prado, MLAM (2020) section 4.4, snippet 4.1 (base clustering).
+-- x i c is item i's column c, its distance to item c. Definitions only.
 use Prim.Native.Nat.{ℕ, zero, suc, _+_}
 use mathlib.Core.Bool.{true, cond}
 use mathlib.Core.List.{List}

@@ -1,4 +1,4 @@
--- The choice between an old and a new partition. Definitions only.
+-- The choice between an old and a new partition. López de Prado, MLAM (2020) section 4.4, snippet 4.2 (higher-level clustering). Definitions only.
 use mathlib.Core.Bool.{cond}
 use lib.Ieee.{Float, lt}
 

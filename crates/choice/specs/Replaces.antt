@@ -1,4 +1,4 @@
--- Which of two candidates is kept. Definitions only.
+-- Which of two candidates is kept. López de Prado, MLAM (2020) section 4.4, snippet 4.1 (base clustering). Definitions only.
 use mathlib.Core.Bool.{Bool, true, _&&_, _||_}
 use lib.Ieee.{Float, inf, lt, eq}
 use Rattle.choice.specs.declared.Kept.{Kept}

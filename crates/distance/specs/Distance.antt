@@ -1,4 +1,4 @@
--- Distances of a book of correlations. Definitions only.
+-- Distances of a book of correlations. López de Prado, MLAM (2020) section 4.4, snippet 4.1 (base clustering). Definitions only.
 use Prim.Native.Nat.{ℕ, _*_, _<_, _≤_}
 use mathlib.Core.Path.{_≡_}
 use mathlib.Core.Bool.{true, false, cond}

@@ -1,4 +1,5 @@
--- The grouping called from C: its answer in a lent list of four numbers, and the number alone as the value. Definitions only.
+-- The grouping called from C. What it returns stands in the lent list `answer`, four numbers, since a value of C is one number; the first of them is the value
+-- too. `answer` is no output list: a refusal that keeps every list writes it. Definitions only.
 use Prim.Native.Nat.{ℕ}
 use mathlib.Core.Bool.{cond}
 use mathlib.Core.List.{List, [], _∷_}
@@ -13,8 +14,8 @@ pub record GroupingReport : Type 0 where
   pub answer : List ℕ
   pub lists : Lists
 
--- The number, the place, the groups and the draws read, in `answer`. If that has another length than 4 it is an output list of wrong length: the call
--- is refused by `q`, which is 6 or a row above it, and every list is as it was.
+-- The number, the place, the groups and the draws read, in `answer`. If that has another length than 4 there is no place for what is returned: the call is
+-- refused by `q`, which is 6, for a list of wrong length, or a row above it; `answer` and every list are as they were.
 unfoldable pub groupingReported : Refusal → Outcome → List ℕ → Lists → GroupingReport
 groupingReported q o answer l =
     cond (eqb (length answer) 4)

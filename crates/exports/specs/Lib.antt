@@ -1,2 +1,2 @@
--- What the grouping called from C gives and leaves.
+-- What the grouping called from C returns, in `answer`, and leaves in its lists.
 pub mod Grouping

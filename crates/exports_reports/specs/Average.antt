@@ -1,5 +1,5 @@
--- A statistic called from C: the average in a lent list of one double, the answer in a lent list of two numbers, and its number alone as
--- the value. Definitions only.
+-- A statistic called from C: the average in the output list `average`, one double. What it returns stands in the lent list `answer`, two numbers, of which
+-- the first is the value too; `answer` is no output list. Definitions only.
 use Prim.Native.Nat.{ℕ}
 use mathlib.Core.Bool.{cond, _&&_}
 use mathlib.Core.List.{List, [], _∷_, _++_}
@@ -19,7 +19,7 @@ abbrev pub numberWithout : Averaged → ℕ
 numberWithout a = cond (eqb (a .number) 0) 6 (a .number)
 
 -- The number and how many averages there are, 1 or 0, in `answer`; the average, where there is one, in `average`. If `answer` has another
--- length than 2 or `average` than 1, that is an output list of wrong length, and every list is as it was.
+-- length than 2 or `average` than 1, that is a list of wrong length, and both are as they were.
 unfoldable pub averageReported : Averaged → List ℕ → List Float → AverageReport
 averageReported a answer average =
     cond (eqb (length average) 1 && eqb (length answer) 2)

@@ -1,4 +1,5 @@
--- The check of a book called from C: its answer in a lent list of two numbers, and the number alone as the value. Definitions only.
+-- The check of a book called from C. What it returns stands in the lent list `answer`, two numbers, of which the first is the value too; the call has no
+-- output list. Definitions only.
 use Prim.Native.Nat.{ℕ}
 use mathlib.Core.Bool.{false, cond}
 use mathlib.Core.List.{List, [], _∷_}
@@ -12,12 +13,12 @@ pub record BookReport : Type 0 where
   pub number : ℕ
   pub answer : List ℕ
 
--- a list of wrong length: 6, or 2, 4 or 5 by the book's shape, which come first
+-- `answer` of wrong length: 6, or 2, 4 or 5 by the book's shape, which come first
 unfoldable pub bookShape : ℕ → ℕ → ℕ → Refusal
 bookShape rows cols cells = shapeOf rows cols cells false
 
--- The number and the place of `intake`, in `answer`. If that has another length than 2 it is an output list of wrong length: the call is
--- refused by `shape`, ahead of 21, 22 and 23, and the list is as it was.
+-- The number and the place of `intake`, in `answer`. If that has another length than 2 there is no place for what is returned: the call is
+-- refused by `shape`, ahead of 21, 22 and 23, and `answer` is as it was.
 unfoldable pub bookReported : Refusal → Refusal → List ℕ → BookReport
 bookReported shape intake answer =
     cond (eqb (length answer) 2)

@@ -1,4 +1,5 @@
--- A k-means leaf called from C: its answer in a lent list of three numbers, and the number alone as the value. Definitions only.
+-- A k-means leaf called from C. What it returns stands in the lent list `answer`, three numbers, of which the first is the value too; `answer` is no output
+-- list. Definitions only.
 use Prim.Native.Nat.{ℕ}
 use mathlib.Core.Bool.{false, cond}
 use mathlib.Core.List.{List, [], _∷_}
@@ -16,8 +17,8 @@ pub record Reported : Type 0 where
   pub floats : List Float
   pub numbers : List ℕ
 
--- The number, the place and the draws read, in `answer`. If that has another length than 3 it is an output list of wrong length: the call
--- is refused by 6, or by 2, 4 or 5 of n items with `cells` cells, which come first, and every list is as it was.
+-- The number, the place and the draws read, in `answer`. If that has another length than 3 there is no place for what is returned: the call
+-- is refused by 6, or by 2, 4 or 5 of n items with `cells` cells, which come first; `answer` and every list are as they were.
 unfoldable pub reportedOf : ℕ → ℕ → Leaf → List ℕ → List ℕ → List Float → List ℕ → Reported
 reportedOf cells n leaf answer out floats numbers =
     cond (eqb (length answer) 3)

@@ -105,7 +105,7 @@ pub extern "C" fn onc_kmeans_labels(
     harness_reports::report_kmeans(a, answer)
 }
 
-// What k-means reads of the points, worked out once for every k. Inner form.
+// What k-means reads of the points, worked out once for every k. Inner form. The fourth and the fifth area are left with anything.
 #[no_mangle]
 pub extern "C" fn onc_prepare(points: &[f64], m: usize, area: &mut [f64])
     requires { ⌜ (2 ≤ m) × (m ≤ 256) × (length (now points) ≡ m * m) × (length (now area) ≡ 5 * (m * m)) ⌝ }
@@ -114,7 +114,8 @@ pub extern "C" fn onc_prepare(points: &[f64], m: usize, area: &mut [f64])
     kmeans::prepare(points, m, area);
 }
 
-// The labels of the items in k groups; the place of the next draw, and 0 where a draw was out of range. Inner form.
+// The labels of the items in k groups; the place of the next draw, and 0 where a draw was out of range. Inner form. The fifth area is
+// left with anything.
 #[no_mangle]
 pub extern "C" fn onc_labels_in(
     area: &mut [f64],
@@ -144,7 +145,8 @@ pub extern "C" fn onc_book_pairs(book: &[f64], n: usize, rows: &[usize], area: &
     areas::book_pairs(book, n, rows, area);
 }
 
-// As many centres as the list holds; the place of the next draw, and 0 where a draw was out of range. Inner form.
+// As many centres as the list holds; the place of the next draw, and 0 where a draw was out of range. Inner form. The weights are left
+// with anything, and so are the centres where it gives 0.
 #[no_mangle]
 pub extern "C" fn onc_seed_in(
     area: &[f64],
@@ -164,7 +166,7 @@ pub extern "C" fn onc_seed_in(
     }
 }
 
-// The labels by Lloyd's passes from the centres. Inner form.
+// The labels by Lloyd's passes from the centres. Inner form. The fifth area is left with anything.
 #[no_mangle]
 pub extern "C" fn onc_lloyd_in(area: &mut [f64], m: usize, centres: &[usize], labels: &mut [usize])
     requires { ⌜ Held (now area) m × Centres (now centres) m × (length (now labels) ≡ m) ⌝ }

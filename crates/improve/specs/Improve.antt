@@ -1,4 +1,5 @@
--- A partition whose weak groups were clustered again, in a book of their own. Definitions only.
+-- A partition whose weak groups were clustered again, in a book of their own. López de Prado, MLAM (2020) section 4.4, snippet 4.2
+-- (higher-level clustering). Definitions only.
 use Prim.Native.Nat.{ℕ}
 use mathlib.Core.List.{List}
 use lib.Ieee.{Float}

@@ -1,4 +1,5 @@
--- The weak items of a partition, and its kept groups with those of the inner book behind them. Definitions only.
+-- The weak items of a partition, and its kept groups with those of the inner book behind them. López de Prado, MLAM (2020) section 4.4, snippet 4.2
+-- (higher-level clustering). Definitions only.
 use Prim.Native.Nat.{ℕ}
 use mathlib.Core.List.{List, _++_, map}
 use Rattle.partition.specs.Partition.{joined, State}

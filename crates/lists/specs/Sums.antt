@@ -1,4 +1,5 @@
--- Sums, counts and tests over the first k places of an index function. Definitions only.
+-- Sums, counts and tests over the first k places of an index function. A sum of doubles starts from +0 and rounds each addition by IEEE 754, from the
+-- left. Definitions only.
 use Prim.Native.Nat.{ℕ, zero, suc, _+_}
 use mathlib.Core.Bool.{Bool, true, false, cond, _&&_}
 use lib.Dec.{eqb}

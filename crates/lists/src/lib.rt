@@ -122,6 +122,7 @@ pub fn row_buffer() -> [f64; 256]
     [0.0; 256]
 }
 
+// The same for a row of numbers.
 pub fn number_buffer() -> [usize; 256]
     ensures { λ r. ⌜ length r ≡ 256 ⌝ }
 {

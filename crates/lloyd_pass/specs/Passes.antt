@@ -1,4 +1,5 @@
--- Lloyd's passes over m items in k groups, from the items centre 0, .., centre (k - 1) as centroids. Definitions only.
+-- Lloyd's passes (Lloyd 1982) over m items in k groups, from the items centre 0, .., centre (k - 1) as centroids.
+-- `taken` and `moved` are the rule for empty groups. Definitions only.
 -- x i c is column c of item i, label i its group, dist i its squared distance to that group's centroid, +infinity where no distance is below it.
 use Prim.Native.Nat.{ℕ, zero, suc}
 use mathlib.Core.Bool.{Bool, false, cond, _&&_, _||_}

@@ -57,7 +57,7 @@ fn refresh_rows(
     }
 }
 
-// The same, with lists to work in.
+// The same, with sizes and marks of its own. `dists`, `sums` and the rows of the table behind the k-th are left with anything.
 pub fn refresh(
     area: &mut [f64],
     old: &[usize],

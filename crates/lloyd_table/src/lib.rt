@@ -58,7 +58,7 @@ fn set_mean(area: &mut [f64], labels: &[usize], l: usize, n: usize, sums: &mut [
 }
 
 // Row l of the table for the next centroids, n being the size of group l. An empty group takes the farthest item, and one with a single member
-// has that item's pair distances.
+// has that item's pair distances. `sums` is left with anything.
 pub fn refresh_group(
     area: &mut [f64],
     labels: &[usize],
@@ -83,7 +83,7 @@ pub fn refresh_group(
     set_mean(area, labels, l, n, sums);
 }
 
-// The table for the first centroids, which are items: their pair distances.
+// The table for the first centroids, which are items: their pair distances. Rows behind the last centroid's are left with anything.
 pub fn first_table(area: &mut [f64], m: usize, centres: &[usize])
     requires { ⌜ Held (now area) m × Centres (now centres) m ⌝ }
     ensures { λ _. ⌜ ((l : ℕ) → l < length (now (centres .entry)) → tableRow (now (area .exit)) m l ≡ distances (pointsAt (now (area .entry)) m) m (pointsAt (now (area .entry)) m (numbers (now (centres .entry)) l))) ⌝ }

@@ -1,4 +1,4 @@
--- k-means++ seeding: k centres among m items, with q p i the squared distance of items p and i. Definitions only.
+-- k-means++ seeding (Arthur and Vassilvitskii 2007): k centres among m items, with q p i the squared distance of items p and i. Definitions only.
 use Prim.Native.Nat.{ℕ, zero, suc, _+_, _-_, _*_, _<_, _≤_}
 use mathlib.Core.Path.{_≡_}
 use mathlib.Core.List.{List, [], _∷_, _++_}

@@ -1,4 +1,5 @@
--- A trial of one centre more: w i is item i's weight, its least squared distance to a centre, q p i its squared distance to item p, and there are m items. Definitions only.
+-- A trial of one centre more of k-means++ (Arthur and Vassilvitskii 2007): w i is item i's weight, its least squared distance to a centre,
+-- q p i its squared distance to item p, and there are m items. Definitions only.
 use Prim.Native.Nat.{ℕ, suc, _-_}
 use mathlib.Core.Path.{_≡_}
 use mathlib.Core.Bool.{cond}

@@ -1,5 +1,5 @@
--- One centre more, the best of its trials: w i is item i's weight, its least squared distance to a centre, q p i its squared distance to item p, and there are m items.
--- A trial is that of plusplus_pick/specs/Potentials.antt. Definitions only.
+-- One centre more of k-means++ (Arthur and Vassilvitskii 2007), the best of its trials: w i is item i's weight, its least squared distance to a centre,
+-- q p i its squared distance to item p, and there are m items. A trial is that of plusplus_pick/specs/Potentials.antt. Definitions only.
 use Prim.Native.Nat.{ℕ, _-_, _+_, _*_, _≤_, _<_}
 use mathlib.Core.Path.{_≡_}
 use mathlib.Core.List.{List}

@@ -1,4 +1,5 @@
--- How good each group is, and which are weak. Definitions only.
+-- How good each group is, and which are weak: those whose t-stat is below the average. López de Prado, MLAM (2020) section 4.4, snippet 4.2
+-- (higher-level clustering). Definitions only.
 use Prim.Native.Nat.{ℕ}
 use mathlib.Core.Bool.{Bool, cond, not}
 use mathlib.Core.List.{List, [], _∷_, _++_, map}

@@ -1,4 +1,5 @@
--- The rounds of a run: one on the whole book, then one more each time that weak groups are clustered again. Definitions only.
+-- The rounds of a run: one on the whole book, then one more each time that weak groups are clustered again.
+-- López de Prado, MLAM (2020) section 4.4, snippet 4.2 (higher-level clustering). Definitions only.
 use Prim.Native.Nat.{ℕ, zero, suc, _+_, _*_}
 use mathlib.Core.Bool.{cond}
 use mathlib.Core.List.{List, [], _∷_}

@@ -55,7 +55,8 @@ fn start_with(
     }
 }
 
-// The start of a round over m items: 7 where there are too few draws, else its base and its weak items. Inner form.
+// The start of a round over m items: 7 where there are too few draws, else its base and its weak items. Inner form. The fronts of the working
+// lists, 4 n numbers and left * n + 5 n² doubles, hold the rows, the base and the rows of the weak items where there is a base, and else anything.
 pub fn start_round(
     book: &[f64],
     n: usize,

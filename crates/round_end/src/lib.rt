@@ -84,7 +84,7 @@ fn end_with(
     )
 }
 
-// The same, with working lists of its own. Inner form.
+// The same, with working lists of its own. Inner form. The first left * n + 5 n² doubles of `wf` hold anything afterwards.
 pub fn end_round(
     book: &[f64],
     n: usize,

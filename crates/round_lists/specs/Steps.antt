@@ -20,7 +20,7 @@ pub record Room (n m : ℕ) (wi : List ℕ) (wf : List Float) : Type 0 where
   pub room : 3 * n ≤ length wi
   pub space : n ≤ length wf
 
--- the base has been put there, and nothing else was touched
+-- the base has been put there; of the places between its parts, behind the items, nothing is said, and nothing else was touched
 pub record Stored (n : ℕ) (order sizes : List ℕ) (scores : List Float) (wi wi′ : List ℕ) (wf wf′ : List Float) : Type 0 where
   pub rows-kept : take n wi′ ≡ take n wi
   pub order-at : part n (length order) wi′ ≡ order

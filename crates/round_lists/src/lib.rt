@@ -8,7 +8,8 @@ ghost use Rattle.improve_merge.specs.Steps.{stateOf};
 ghost use Rattle.round_lists.specs.Steps.{Room, Stored, StoresRows, WeakFound, RowsStored};
 use improve_merge::Weak;
 
-// The base in its places: order and sizes in the numbers, scores in the doubles.
+// The base in its places: order and sizes in the numbers, scores in the doubles. What lies between their ends and the next place is left with
+// anything.
 pub fn store_base(
     n: usize,
     order: &[usize],
@@ -62,7 +63,7 @@ fn find_weak_with(
     weak
 }
 
-// The same, without lists to work in.
+// The same, without lists to work in. What lies behind the rows, up to place 4 n, is left with anything.
 pub fn find_weak(
     n: usize,
     count: usize,

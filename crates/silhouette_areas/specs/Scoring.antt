@@ -1,4 +1,4 @@
--- The score of each of the m items of a round, whose columns are x, under the labels. Definitions only.
+-- The silhouette (Rousseeuw 1987) of each of the m items of a round, whose columns are x, under the labels. Definitions only.
 use Prim.Native.Nat.{ℕ, _*_}
 use mathlib.Core.Path.{_≡_}
 use mathlib.Core.List.{List}

@@ -1,4 +1,4 @@
--- Rousseeuw's silhouette of item i: d j is its distance to item j, label j is the group of item j, and there are n items. Definitions only.
+-- The silhouette (Rousseeuw 1987) of item i: d j is its distance to item j, label j is the group of item j, and there are n items. Definitions only.
 use Prim.Native.Nat.{ℕ, zero, suc}
 use mathlib.Core.Bool.{Bool, false, cond, not, _&&_, _||_}
 use lib.Dec.{eqb}

@@ -9,7 +9,7 @@ ghost use Rattle.text_written.specs.Answers.{refusalOf, bytesOf};
 ghost use Rattle.text_answer.specs.Answer.{groupedText, refusalFits, writtenOf};
 use text_written::Written;
 
-// A list for 12 names. It comes from a function: a literal array would stand in every goal, cell by cell.
+// A list for 12 names, of which only the length is promised. It comes from a function: a literal array would stand in every goal, cell by cell.
 pub fn name_list() -> [usize; 12]
     ensures { λ r. ⌜ 12 ≡ length r ⌝ }
 {

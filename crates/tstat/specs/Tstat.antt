@@ -1,4 +1,5 @@
--- The t-statistic of n values, mean over population deviation, and their plain mean. Definitions only.
+-- The t-statistic of n values, mean over population deviation, and their plain mean. López de Prado, MLAM (2020) section 4.4, snippet 4.1
+-- (base clustering). Definitions only.
 use Prim.Native.Nat.{ℕ}
 use mathlib.Core.Bool.{false, cond}
 use lib.Dec.{eqb}

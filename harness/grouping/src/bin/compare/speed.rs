@@ -155,6 +155,7 @@ fn library_round(case: &Case, meter: &mut Meter) -> Candidates {
     let seed = |k: usize| {
         let mut centres = vec![0usize; k];
         at = unsafe { onc_seed_in(a, al, n, draws.as_ptr(), draws.len(), at, centres.as_mut_ptr(), k, weights.as_mut_ptr(), n) };
+        assert!(at > 0, "a draw out of range");
         centres
     };
     let centres: Vec<_> = meter.run(|| (2..n).map(seed).collect());
@@ -198,15 +199,26 @@ fn times_of(n: usize, runs: usize) -> usize {
     }
 }
 
-/// Nanoseconds of a cycle, by a chain of integer products, which take 3 cycles each: the limits in docs/SPEED.md are counted in cycles.
-fn cycle() -> f64 {
+/// The limits in docs/SPEED.md are counted in cycles. Nanoseconds of a cycle, by a chain of integer products, which take 3 cycles each; and of an addition
+/// of doubles that waits for another.
+fn cycle_and_addition() -> [f64; 2] {
     const STEPS: u32 = 100_000;
-    let times = (0..1000).map(|_| {
-        let began = Instant::now();
+    let least = |chain: &dyn Fn()| {
+        let times = (0..1000).map(|_| {
+            let began = Instant::now();
+            chain();
+            began.elapsed().as_nanos() as f64 / f64::from(STEPS)
+        });
+        times.fold(f64::INFINITY, f64::min)
+    };
+    let product = least(&|| {
         black_box((0..STEPS).fold(1u64, |x, _| x.wrapping_mul(black_box(3))));
-        began.elapsed().as_nanos() as f64 / f64::from(3 * STEPS)
     });
-    times.fold(f64::INFINITY, f64::min)
+    let one = black_box(1.0);
+    let addition = least(&|| {
+        black_box((0..STEPS).fold(0.0, |x, _| x + one));
+    });
+    [product / 3.0, addition]
 }
 
 fn answers(equal: bool) -> &'static str {
@@ -253,7 +265,8 @@ pub fn time(runs: usize) -> bool {
         row.extend((0..4).map(|phase| rounds[i][1][phase] / rounds[i - 1][1][phase]));
         println!("| {} to {} | {} |", NAMES[i - 1], NAMES[i], row.iter().map(|x| format!("{x:.1}")).collect::<Vec<_>>().join(" | "));
     }
-    println!("\nA cycle takes {:.2} ns.", cycle());
+    let [cycle, addition] = cycle_and_addition();
+    println!("\nA cycle takes {cycle:.2} ns, an addition that waits for another {:.1} cycles.", addition / cycle);
     right
 }
 
