@@ -126,6 +126,8 @@ for document in ["README.md"] + [p for p in below("docs") if p != "docs/REVIEW.m
                 has(where, os.path.exists(path), f"no {path}")
         if document == "docs/CHANGES.md":
             continue
+        for crate, name in re.findall(r"`([a-z]\w*)::(\w+)`", line):
+            has(where, re.search(rf"\bfn {name}\b", sources.get(crate, "")), f"no {crate}::{name}")
         for name in re.findall(r"`([A-Za-z_][\w-]*)`", line):
             # a suffix, and a name with f or g in it for a function's, stand for many names
             some = name in words or name.startswith("_") and any(w.endswith(name) for w in words)
