@@ -84,12 +84,13 @@ for number, line in enumerate(text("docs/REVIEW.md").splitlines(), 1):
 # the map and the reading order, both ways
 mapped, read, heads = {}, set(), []
 page = text("docs/READING.md")
-for number, line in enumerate(page.splitlines(), 1):
+rows = page.splitlines()
+for number, line in enumerate(rows, 1):
     where = f"docs/READING.md:{number}"
     if not line.startswith("|") or line.startswith("|--"):
         continue
     row = cells(line)
-    if row[:2] == ["Layer", "Crate"] or row[-1] in ("Read by", "Names", "Paper"):
+    if rows[number:] and rows[number].startswith("|--"):
         heads = row
     elif heads[1] == "Crate":
         mapped[row[1].strip("`")] = row[2]

@@ -2,6 +2,7 @@
 use mathlib.Core.Bool.{cond}
 use lib.Ieee.{Float, lt}
 
--- the new one where its mean t-stat is strictly greater than the old one's, else the old one: so too on a tie, and where one is a NaN
+-- the new one where its number is strictly greater than the old one's, else the old one: so too on a tie, and where one is a NaN. The numbers are the mean
+-- t-stat of all groups of the new partition and that of the weak groups of the old one (`betterOf`, improve/specs/Improve.antt)
 abbrev pub chosen : {A : Type 0} → Float → Float → A → A → A
 chosen newMean oldMean old new = cond (lt oldMean newMean) new old

@@ -40,6 +40,7 @@ pub fn copy(from: &[f64], to: &mut [f64])
     }
 }
 
+// The same for numbers. Inner form.
 pub fn copy_numbers(from: &[usize], to: &mut [usize])
     requires { ⌜ length (now from) ≡ length (now to) ⌝ }
     ensures { λ _. ⌜ now (to .exit) ≡ now (from .entry) ⌝ }
