@@ -61,8 +61,9 @@ for number, line in enumerate(text("docs/REVIEW.md").splitlines(), 1):
     if not line.startswith("|"):
         continue
     where = f"docs/REVIEW.md:{number}"
-    for document, sentence in re.findall(r'(README\.md|docs/\w+\.md) "([^"]+)"', line):
-        has(where, sentence in text(document), f"{document} does not say: {sentence}")
+    for document, quoted in re.findall(r'(README\.md|docs/\w+\.md) ("[^"]+"(?:, "[^"]+")*)', line):
+        for sentence in re.findall(r'"([^"]+)"', quoted):
+            has(where, sentence in text(document), f"{document} does not say: {sentence}")
     for part in re.split(r"[;|]", line):
         part = part.strip()
         path = re.match(r"((?:[\w.+-]+/)+[\w.+-]+\.(?:antt|rt|rs|py|sh|md|h|txt))\b", part)
@@ -104,8 +105,17 @@ for number, line in enumerate(rows, 1):
         has(where, os.path.exists(path), f"no file {row[1]}")
         for name in re.findall(r"`([^`]+)`", row[2]) if os.path.exists(path) else []:
             has(where, defined(path, name), f"{row[1]} does not define {name}")
-for word in re.findall(r"[a-z]+(?:_[a-z]+)+", page.split("```")[1]):
-    has("docs/READING.md, the picture", word in lines, f"no crate {word}")
+# in the picture names stand around the lines that join them, in front of a colon behind a semicolon, or have an underscore
+picture, behind = page.split("```")[1:3]
+drawn = set(re.findall(r"\b[a-z]+(?:_[a-z]+)+\b|\b[a-z]+(?=(?: \([a-z ]+\))? ──)|(?<=; )[a-z]+(?=:)", picture))
+for part in re.findall(r"── (.*?)(?= ──|:|  |$)", picture, re.M):
+    drawn.update(re.sub(r" \([a-z ]+\)", "", part).split(", "))
+drawn.update(re.findall(r"[a-z]+", picture.split("SHARED")[1].replace("of those above", "")))
+undrawn = set(re.findall(r"`(\w+)`", behind.split("\n\n")[1]))
+for name in sorted(drawn | undrawn):
+    has("docs/READING.md, the picture", name in lines, f"no crate {name}")
+for crate in sorted(lines):
+    has("docs/READING.md, the picture", crate.startswith(("test_", "harness_")) or (crate in drawn) != (crate in undrawn), f"{crate} is to be drawn or named as not drawn")
 for crate in sorted(set(lines) | set(os.listdir("crates"))):
     has("docs/READING.md", crate in mapped and crate in lines and os.path.isdir(f"crates/{crate}"), f"crate {crate} is not in the map, crates.txt and crates/")
 for path in below("crates"):

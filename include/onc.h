@@ -81,7 +81,7 @@ enum onc_number {
  *   draws     read from the front; 32 * repeat * onc_draws_for(n) are always enough. A round of m names reads, for each repeat and each number of groups
  *             k from 2 to max(m - 1, 2), first an index, below m, then shares, below ONC_SHARE_LIMIT, some for each of k - 1 further centres; indexes
  *             in their place where the names' least squared distances to a centre do not sum to more than 0. Zeros are in range everywhere and are
- *             for trying out. Random numbers below n everywhere give poor groupings: as shares they are next to 0. docs/CALLS.md says how
+ *             for trying out. Random numbers below n everywhere give poor groupings: as shares they are close to 0. docs/CALLS.md says how
  *             proper draws are made.
  *   order     n row numbers
  *   sizes     n numbers

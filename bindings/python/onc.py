@@ -263,9 +263,9 @@ def group(book, draws, repeat: int = 1, names=None) -> Grouping:
 
     book: a correlation matrix of 2 to 256 names, as a list of rows, or as a buffer of doubles or floats with one dimension (row by row) or two.
     NaN and infinite cells are taken. A buffer of integers is refused by a TypeError: it may be a book in millionths.
-    draws: the random draws as a list or a buffer of whole numbers. For each number of groups of a round the first is an index, below the names of
-    the round; those behind it are shares, below 2**53 and meaning themselves over 2**53. draws_enough says how many are always enough. Zeros, in
-    range everywhere, are for trying out; random numbers below the number of names everywhere give poor groupings. random_draws.py beside this file
+    draws: the random draws as a list or a buffer of whole numbers. For each repeat and each number of groups of a round the first is an index, below
+    the number of the round's names; those behind it are shares, below 2**53 and meaning themselves over 2**53 (indexes again where the names' least
+    squared distances to a centre do not sum to more than 0). draws_enough says how many are always enough. Zeros, in range everywhere, are for trying out; random numbers below the number of names everywhere give poor groupings. random_draws.py beside this file
     makes proper ones.
     repeat: 1 to 64. names: one for each row, each once; without them the names are 0, 1, ..
     """

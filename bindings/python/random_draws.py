@@ -2,7 +2,7 @@
 
 A draw is an index, below the names of its round, or a share, below 2**53. Which of the two a draw is, and how many names a later round has, shows
 during a run. So all draws start as shares, and a refusal by 8 names the place of one that is read as an index; a refusal by 7 says that one more round starts,
-which reads no more draws than the first. As a program it counts for how many of 100 seeds five clean blocks are found, by these draws, by random numbers
+which reads no more draws than the first. As a program it counts for how many of 100 seeds five equal blocks are found, by these draws, by random numbers
 below the number of names, and by zeros:
 
     PYTHONPATH=bindings/python python3 bindings/python/random_draws.py

@@ -134,11 +134,10 @@ impl Grouper {
 ///
 /// The book is a correlation matrix of 2 to 256 names, row by row; NaN and infinite cells are taken. `repeat` is 1 to 64.
 ///
-/// The random draws come in as a list. For each number of groups of a round the first is an index, below the names of the round; those behind it are
-/// shares, below 2^53 and meaning themselves over 2^53 (indexes again where the names' least squared
-/// distances to a centre do not sum to more than 0).
-/// [`draws_enough`](crate::draws_enough) says how many are always enough. Zeros, in range everywhere, are for trying out. Random numbers below the number of
-/// names everywhere give poor groupings: as shares they are next to 0. Proper ones start as random shares; a refusal by 8 names the place of a draw
+/// The random draws come in as a list. For each repeat and each number of groups of a round the first is an index, below the number of the round's names;
+/// those behind it are shares, below 2^53 and meaning themselves over 2^53 (indexes again where the names' least squared distances to a centre do not sum to
+/// more than 0). [`draws_enough`](crate::draws_enough) says how many are always enough. Zeros, in range everywhere, are for trying out. Random numbers below the
+/// number of names everywhere give poor groupings: as shares they are close to 0. Proper ones start as random shares; a refusal by 8 names the place of a draw
 /// that is read as an index, and one by 7 says that another round starts, which reads no more than the first.
 ///
 /// Refusals: 1, 2, 4, 5; 9, 7, 8 and 3 as the run meets them.

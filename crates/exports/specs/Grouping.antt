@@ -1,5 +1,5 @@
--- The grouping called from C. What it returns stands in the lent list `answer`, four numbers, since a value of C is one number; the first of them is the value
--- too. `answer` is no output list: a refusal that keeps every list writes it. Definitions only.
+-- The grouping called from C. What it returns stands in the lent list `answer`, four numbers, of which the first is the value too. `answer` is no output list: a
+-- refusal that keeps every list writes it. Definitions only.
 use Prim.Native.Nat.{ℕ}
 use mathlib.Core.Bool.{cond}
 use mathlib.Core.List.{List, [], _∷_}

@@ -1,4 +1,4 @@
--- `lloyd_mean::first_member` meets its contract: no item before i is in the group.
+-- `lloyd_members::first_member` meets its contract: no item before i is in the group.
 use Prim.Native.Nat.{_-_, _≤_}
 use mathlib.Core.Path.{_≡_, refl, sym}
 use native.Mathlib.Omega.{arith}
