@@ -216,7 +216,8 @@ Tells (ended (Short k) ms) a = a ≡ refusing (record { number = 7; place = k })
 Tells (ended (DrawOutOfRange p) ms) a = a ≡ refusing (record { number = 8; place = p })
 Tells (ended ClusteringFailed ms) a = a ≡ refusing (record { number = 3; place = 0 })
 
--- Demand 3: how many draws a call reads, and that no others matter.
+-- Demand 3: how many draws a call reads. Where it ends in a grouping, no others matter (`Counted`); 7 gives the sum over the rounds that started; and each way in
+-- which a run ends is told by its number and place, and met as `EndsBy` says.
 pub record Demand3 (book : List Float) (rows cols repeat : ℕ) (draws : List ℕ) (l : Lists) : Type 0 where
   pub grouped : groupOf book rows cols repeat draws l .answer .refused .number ≡ 0
       → Counted book rows cols repeat draws l (groupOf book rows cols repeat draws l .answer .read)
