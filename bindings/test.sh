@@ -78,6 +78,6 @@ export ONC_LIBRARY=$shared
 (cd bindings/python && "${PYTHON:-python3}" -m unittest)
 
 echo "== the commands of README.md and docs/CALLS.md"
-env -u ONC_LIBRARY "${PYTHON:-python3}" bindings/snippets.py README.md docs/CALLS.md
+env -u ONC_LIBRARY -u LIBRARY "${PYTHON:-python3}" bindings/snippets.py README.md docs/CALLS.md
 
 echo "C, Rust and Python: all passed"

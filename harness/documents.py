@@ -41,7 +41,7 @@ def defined(path, name):
     """Whether a file of definitions or a source defines a name, as a function, a type, a case, a field or a parameter; another file has it."""
     plain, name = name, re.escape(name)
     if path.endswith(".antt"):
-        return re.search(rf"^ *(?:(?:pub|abbrev|unfoldable|opaque|record|data) )*{name}(?= :| \(| \{{)", text(path), re.M) is not None
+        return re.search(rf"^(?:  )?(?:(?:pub|abbrev|unfoldable|opaque) )*{name} :|^(?:pub )?(?:record|data) {name}\b", text(path), re.M) is not None
     if path.endswith(".rt"):
         enums = "".join(re.findall(r"^pub enum \w+ \{\n.*?^\}", text(path), re.M | re.S))
         return bool(re.search(rf"\b(?:fn|struct|enum|const) {name}\b|(?<![\w.]){name}: ", text(path)) or re.search(rf"^    {name}\b", enums, re.M))
@@ -94,6 +94,7 @@ for number, line in enumerate(rows, 1):
     if rows[number:] and rows[number].startswith("|--"):
         heads = row
     elif heads[1] == "Crate":
+        has(where, row[1].strip("`") not in mapped, f"{row[1]} stands twice in the map")
         mapped[row[1].strip("`")] = row[2]
         has(where, lines.get(row[1].strip("`")) == row[2], f"{row[1]} has another line in crates.txt")
     elif heads[-1] == "Read by":
@@ -102,6 +103,7 @@ for number, line in enumerate(rows, 1):
     elif heads[-1] == "Names":
         path = "crates/" + row[1]
         read.add(path)
+        has(where, "`" in row[2], f"{row[1]}: no name")
         has(where, os.path.exists(path), f"no file {row[1]}")
         for name in re.findall(r"`([^`]+)`", row[2]) if os.path.exists(path) else []:
             has(where, defined(path, name), f"{row[1]} does not define {name}")
@@ -110,6 +112,7 @@ picture, behind = page.split("```")[1:3]
 drawn = set(re.findall(r"\b[a-z]+(?:_[a-z]+)+\b|\b[a-z]+(?=(?: \([a-z ]+\))? ──)|(?<=; )[a-z]+(?=:)", picture))
 for part in re.findall(r"── (.*?)(?= ──|:|  |$)", picture, re.M):
     drawn.update(re.sub(r" \([a-z ]+\)", "", part).split(", "))
+drawn.update(re.findall(r"^ [A-Z' -]* ([a-z]+)$", picture, re.M))
 drawn.update(re.findall(r"[a-z]+", picture.split("SHARED")[1].replace("of those above", "")))
 undrawn = set(re.findall(r"`(\w+)`", behind.split("\n\n")[1]))
 for name in sorted(drawn | undrawn):
@@ -119,7 +122,7 @@ for crate in sorted(lines):
 for crate in sorted(set(lines) | set(os.listdir("crates"))):
     has("docs/READING.md", crate in mapped and crate in lines and os.path.isdir(f"crates/{crate}"), f"crate {crate} is not in the map, crates.txt and crates/")
 for path in below("crates"):
-    if re.fullmatch(r"crates/(?!test_|harness_)\w+/specs/(?!Lib|Steps)\w+\.antt", path):
+    if re.fullmatch(r"crates/(?!test_|harness_)\w+/specs/(?:\w+/)*(?!(?:Lib|Steps)\.)\w+\.antt", path):
         has("docs/READING.md", path in read, f"{path} is not in the reading order")
 
 # paths, and names in backticks, of the other documents
@@ -137,6 +140,9 @@ for document in ["README.md"] + [p for p in below("docs") if p != "docs/REVIEW.m
                 has(where, os.path.exists(path), f"no {path}")
         if document == "docs/CHANGES.md":
             continue
+        for names, path in re.findall(r"((?:`[\w-]+`(?:, | and )?)+) \((crates/[\w/.+-]+\.(?:antt|rt))", line):
+            for name in re.findall(r"`([^`]+)`", names):
+                has(where, os.path.exists(path) and named(path, name), f"{path} does not name {name}")
         for crate, name in re.findall(r"`([a-z]\w*)::(\w+)`", line):
             has(where, re.search(rf"\bfn {name}\b", sources.get(crate, "")), f"no {crate}::{name}")
         for name in re.findall(r"`([A-Za-z_][\w-]*)`", line):

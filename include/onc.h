@@ -66,8 +66,8 @@ enum onc_number {
     ONC_INVALID_GROUPING = 30,          /* a grouping handed in with a name missing or twice, or sizes with a gap or not n in all */
     ONC_TOO_MANY_ROUNDS = 9,            /* a 33rd round would start */
     ONC_TOO_FEW_DRAWS = 7,              /* fewer draws remain than the next round needs; place: the draws read so far */
-    ONC_DRAW_OUT_OF_RANGE = 8,          /* a draw that was read is out of range; place: its index in `draws`, from 0 */
-    ONC_CLUSTERING_FAILED = 3,          /* no candidate has a t-stat that is a number */
+    ONC_DRAW_OUT_OF_RANGE = 8,          /* a draw that was read is out of range; place: where it is in `draws`, from 0 */
+    ONC_CLUSTERING_FAILED = 3,          /* no candidate has a t-stat above -infinity, which a NaN is not */
     ONC_CELL_RANGE = 21,                /* a cell outside -1,000,000 to 1,000,000; place: row * n + column */
     ONC_CELL_DIAGONAL = 22,             /* a cell on the diagonal that is not 1,000,000; place: row * n + column */
     ONC_CELL_MIRROR = 23                /* a cell unlike its mirror; place: row * n + column, of the one above the diagonal */

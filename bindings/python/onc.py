@@ -27,7 +27,7 @@ _ROUNDS = 32
 _CAUSES = {
     1: ("InvalidRepeat", "no repeats"),
     2: ("InvalidCorrelationMatrix", "the matrix is not square or has under two rows"),
-    3: ("ClusteringFailed", "no candidate has a t-stat that is a number"),
+    3: ("ClusteringFailed", "no candidate has a t-stat above -infinity"),
     4: ("TooLarge", "over 256 rows, over 64 repeats, or an average of over 65,536 values"),
     5: ("CellCount", "the cells are not rows times rows"),
     6: ("ListLength", "a list has the wrong length"),
@@ -265,8 +265,8 @@ def group(book, draws, repeat: int = 1, names=None) -> Grouping:
     NaN and infinite cells are taken. A buffer of integers is refused by a TypeError: it may be a book in millionths.
     draws: the random draws as a list or a buffer of whole numbers. For each repeat and each number of groups of a round the first is an index, below
     the number of the round's names; those behind it are shares, below 2**53 and meaning themselves over 2**53 (indexes again where the names' least
-    squared distances to a centre do not sum to more than 0). draws_enough says how many are always enough. Zeros, in range everywhere, are for trying out; random numbers below the number of names everywhere give poor groupings. random_draws.py beside this file
-    makes proper ones.
+    squared distances to a centre do not sum to more than 0). draws_enough says how many are always enough. Zeros, in range everywhere, are for trying
+    out; random numbers below the number of names everywhere give poor groupings. random_draws.py beside this file makes proper ones.
     repeat: 1 to 64. names: one for each row, each once; without them the names are 0, 1, ..
     """
     rows, cols, cells = _matrix(book, *_DOUBLES)

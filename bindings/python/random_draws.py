@@ -1,9 +1,10 @@
 """Groups a book with random draws, and shows why they are made so.
 
-A draw is an index, below the names of its round, or a share, below 2**53. Which of the two a draw is, and how many names a later round has, shows
-during a run. So all draws start as shares, and a refusal by 8 names the place of one that is read as an index; a refusal by 7 says that one more round starts,
-which reads no more draws than the first. As a program it counts for how many of 100 seeds five equal blocks are found, by these draws, by random numbers
-below the number of names, and by zeros:
+A draw is an index, below the names of its round, or a share, below 2**53. Where the indexes of the first round stand is known beforehand. How many names a later
+round has shows during a run, and so does where indexes stand for shares: there a refusal by 8 names the place of a share that is read as an index, and a refusal by
+7 says that one more round starts, which reads no more draws than the first. Each refusal starts the run again, so this takes long where a later round has many
+names and repeats. As a program it counts for how many of 100 seeds five equal blocks are found, by these draws, by random numbers below the number of names, and by
+zeros:
 
     PYTHONPATH=bindings/python python3 bindings/python/random_draws.py
 """
@@ -13,9 +14,20 @@ import random
 import onc
 
 
+def first_round(n, repeat, rng):
+    """The draws of a first round of n names: for each repeat and each number of groups an index and, behind it, shares."""
+    count = onc.draws_for(n)
+    draws = [rng.randrange(2**53) for _ in range(repeat * count)]
+    for start in range(0, repeat * count, count):
+        for k in range(2, max(n, 3)):
+            draws[start + (onc.draws_for(k) if k > 2 else 0)] = rng.randrange(n)
+    return draws
+
+
 def group(book, rng, repeat=1, names=None):
     """The grouping of a book, a list of rows, with draws of this random source."""
-    n, draws = len(book), []
+    n = len(book)
+    draws = first_round(n, repeat, rng) if onc.draws_for(n, repeat) else []
     while True:
         try:
             return onc.group(book, draws, repeat, names)

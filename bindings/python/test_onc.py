@@ -7,6 +7,7 @@ import fractions
 import math
 import os
 import pickle
+import random
 import struct
 import subprocess
 import sys
@@ -14,6 +15,7 @@ import threading
 import unittest
 
 import onc
+import random_draws
 
 HERE = os.path.dirname(os.path.abspath(__file__))
 NAN = float("nan")
@@ -474,6 +476,35 @@ class Example(Case):
                 "refused 23: the cell in row 0, column 1 is unlike its mirror",
             ],
         )
+
+
+class RandomDraws(Case):
+    def out_of_range(self, book, draws, repeat, place):
+        """Whether the call is refused by 8 at this place."""
+        try:
+            onc.group(book, draws, repeat)
+        except onc.Refusal as refusal:
+            return (refusal.number, refusal.place) == (8, place)
+        return False
+
+    def test_which_draws_are_indexes(self):
+        """2**53 - 1 is in range as a share and not as an index, at every place of a first round."""
+        rng = random.Random(7)
+        for n in range(2, 8):
+            book = [[1.0 if i == j else rng.uniform(-1, 1) for j in range(n)] for i in range(n)]
+            for repeat in (1, 2):
+                draws = random_draws.first_round(n, repeat, rng)
+                self.assertEqual(len(draws), onc.draws_for(n, repeat))
+                for place, made in enumerate(draws):
+                    found = [self.out_of_range(book, draws[:place] + [draw] + draws[place + 1 :], repeat, place) for draw in (made, 2**53 - 1, 2**53)]
+                    self.assertEqual(found, [False, made < n, True])
+
+    def test_group(self):
+        found = random_draws.group(PAIRS, random.Random(1), names=["A", "B", "C", "D"])
+        self.assertEqual(sorted(found.groups), [["A", "B"], ["C", "D"]])
+        self.assertRefused(9, None, random_draws.group, ENDLESS, random.Random(1))
+        self.assertRefused(1, None, random_draws.group, PAIRS, random.Random(1), 0)
+        self.assertRefused(2, None, random_draws.group, [[1.0]], random.Random(1))
 
 
 if __name__ == "__main__":

@@ -10,7 +10,7 @@ pub enum Refusal {
     InvalidRepeat,
     /// 2: not square, or under two rows.
     InvalidCorrelationMatrix,
-    /// 3: no candidate whose t-stat is a number.
+    /// 3: no candidate has a t-stat above -infinity.
     ClusteringFailed,
     /// 4: over 256 rows, over 64 repeats, or an average of over 65,536 values.
     TooLarge,
@@ -99,7 +99,7 @@ impl fmt::Display for Refusal {
         match self {
             Refusal::InvalidRepeat => write!(f, "no repeats"),
             Refusal::InvalidCorrelationMatrix => write!(f, "the matrix is not square or has under two rows"),
-            Refusal::ClusteringFailed => write!(f, "no candidate has a t-stat that is a number"),
+            Refusal::ClusteringFailed => write!(f, "no candidate has a t-stat above -infinity"),
             Refusal::TooLarge => write!(f, "over 256 rows, over 64 repeats, or an average of over 65,536 values"),
             Refusal::CellCount => write!(f, "the cells are not rows times rows"),
             Refusal::ListLength => write!(f, "a list has the wrong length"),

@@ -1,5 +1,5 @@
-// The areas of a round's list of doubles, m by m cells each. Four are filled here: the points, which are m items of m columns, their
-// transpose, the squared pair distances, and the pair distances. The fifth, the table of Lloyd's passes, is filled by lloyd_table.
+// The areas of a round's list of doubles, m by m cells each. The first has the points, m items of m columns; their transpose, the
+// squared pair distances and the pair distances are filled from it here. The fifth, the table of Lloyd's passes, is filled by lloyd_table.
 ghost use mathlib.Core.Path.{_≡_};
 ghost use Prim.Native.Nat.{_<_, _≤_, _+_, _-_, _*_};
 ghost use lib.ListN.{length, take};

@@ -63,7 +63,8 @@ fn find_weak_with(
     weak
 }
 
-// The same, without lists to work in. What lies behind the rows, up to place 4 n, is left with anything.
+// The same, without lists to work in. What lies behind the rows, up to place 4 n, is left with anything, and nothing is
+// said of `mean`.
 pub fn find_weak(
     n: usize,
     count: usize,
