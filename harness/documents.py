@@ -3,8 +3,8 @@
 
 docs/REVIEW.md: each file is there and defines the names that stand behind it, each contract and edit is there, each kind of case, and each sentence
 that is quoted. docs/READING.md: both ways, each crate stands in the map with its line of crates.txt and each file of definitions in the reading order,
-and each crate, file and name on the page is there. README.md and the other documents: their paths are there, and each name in backticks stands in a
-source.
+and each crate, file and name on the page is there. What a line of its picture joins is a call. README.md and the other documents: their paths are there, and
+each name in backticks stands in a source, outside its comments.
 
     python3 harness/documents.py
 """
@@ -114,6 +114,12 @@ for part in re.findall(r"── (.*?)(?= ──|:|  |$)", picture, re.M):
     drawn.update(re.sub(r" \([a-z ]+\)", "", part).split(", "))
 drawn.update(re.findall(r"^ [A-Z' -]* ([a-z]+)$", picture, re.M))
 drawn.update(re.findall(r"[a-z]+", picture.split("SHARED")[1].replace("of those above", "")))
+# what a line of the picture joins is a call
+for chain in re.split(r"\n| {2,}", picture):
+    parts = [re.sub(r" \([a-z ]+\)|:.*", "", part).lstrip("│├└─┴ ").split(", ") for part in chain.split(" ── ")]
+    for (*_, caller), called in zip(parts, parts[1:]):
+        for crate in called:
+            has("docs/READING.md, the picture", caller == crate or re.search(rf"\b{crate}::[a-z_]+\(", sources.get(caller, "")), f"{caller} does not call {crate}")
 undrawn = set(re.findall(r"`(\w+)`", behind.split("\n\n")[1]))
 for name in sorted(drawn | undrawn):
     has("docs/READING.md, the picture", name in lines, f"no crate {name}")
@@ -126,12 +132,12 @@ for path in below("crates"):
         has("docs/READING.md", path in read, f"{path} is not in the reading order")
 
 # paths, and names in backticks, of the other documents
-words = set()
+words = set(lines) | kit
 for folder in ("crates", "bindings", "harness", "include"):
     for path in below(folder):
         if not path.endswith(("stdin", "stdout", ".so", ".a")):
-            words.update(re.findall(r"[\w-]+", text(path)), re.findall(r"\w+", text(path)), [os.path.basename(path).split(".")[0]])
-words.update(lines, kit)
+            code = re.sub(r"^ *(?://|--|# ).*", "", text(path), flags=re.M)
+            words.update(re.findall(r"[\w-]+", code), re.findall(r"\w+", code), [os.path.basename(path).split(".")[0]])
 for document in ["README.md"] + [p for p in below("docs") if p != "docs/REVIEW.md"]:
     for number, line in enumerate(text(document).splitlines(), 1):
         where = f"{document}:{number}"
@@ -146,8 +152,8 @@ for document in ["README.md"] + [p for p in below("docs") if p != "docs/REVIEW.m
         for crate, name in re.findall(r"`([a-z]\w*)::(\w+)`", line):
             has(where, re.search(rf"\bfn {name}\b", sources.get(crate, "")), f"no {crate}::{name}")
         for name in re.findall(r"`([A-Za-z_][\w-]*)`", line):
-            # a suffix, and a name with f or g in it for a function's, stand for many names
-            some = name in words or name.startswith("_") and any(w.endswith(name) for w in words)
+            # a suffix, a prefix, and a name with f or g in it for a function's, stand for many names
+            some = name in words or name.startswith("_") and any(w.endswith(name) for w in words) or name.endswith("_") and any(w.startswith(name) for w in words)
             has(where, some or re.search(r"\b[fg]\b", name), f"nothing is called {name}")
 
 for fault in faults:
