@@ -2,7 +2,8 @@
 //!
 //! [`get_onc_clusters_with_draws`] groups a book of 2 to 256 names, and [`Grouper`] does the same with working lists that it keeps. [`mean`],
 //! [`variance`] and [`std_dev`] are the averages below it; [`check_book`] checks a book in whole millionths; [`draws_for`] and [`draws_enough`] count
-//! draws. Bad input is refused by a [`Refusal`] or an [`Improper`], with the numbers of the library's table. No call panics, whatever it is handed, unless another library is linked.
+//! draws. Bad input is refused by a [`Refusal`] or an [`Improper`], with the numbers of the library's table. No call panics, whatever it is handed,
+//! unless another library is linked.
 #![deny(missing_docs)]
 #![deny(unsafe_code)]
 
