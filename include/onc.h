@@ -50,7 +50,7 @@ typedef char onc_size_t_has_64_bits[sizeof(size_t) == 8 ? 1 : -1];
 #define ONC_SHARE_LIMIT (UINT64_C(1) << 53)
 
 /*
- * The numbers, in the order in which they are asked; the place of each is 0 unless one is named. 9, 7, 8 and 3 come as the run meets them.
+ * The numbers, in the order in which they are asked; the place of each is 0 unless one is named. 9, 7 and 8 come as the run meets them; 3 is never returned.
  * No call below gives 11, 29, 10 or 30: 11 is for texts, 29 and 10 for calls below the grouping, and 30 is kept for calls that are handed a grouping.
  */
 enum onc_number {
@@ -67,7 +67,7 @@ enum onc_number {
     ONC_TOO_MANY_ROUNDS = 9,            /* a 33rd round would start */
     ONC_TOO_FEW_DRAWS = 7,              /* fewer draws remain than the next round needs; place: the draws read so far */
     ONC_DRAW_OUT_OF_RANGE = 8,          /* a draw that was read is out of range; place: where it is in `draws`, from 0 */
-    ONC_CLUSTERING_FAILED = 3,          /* no candidate has a t-stat above -infinity, which a NaN is not */
+    ONC_CLUSTERING_FAILED = 3,          /* no candidate with a t-stat above -infinity; never returned, since every round has one */
     ONC_CELL_RANGE = 21,                /* a cell outside -1,000,000 to 1,000,000; place: row * n + column */
     ONC_CELL_DIAGONAL = 22,             /* a cell on the diagonal that is not 1,000,000; place: row * n + column */
     ONC_CELL_MIRROR = 23                /* a cell unlike its mirror; place: row * n + column, of the one above the diagonal */
@@ -94,13 +94,13 @@ enum onc_number {
  * Returns the number, which answer[0] has too. Afterwards:
  *
  *   0           order: the row numbers of group 0, then of group 1, and so on, each name once. sizes: the size of each group, none 0, then zeros.
- *               scores: the silhouette of each name, by row number. ordered: the book with rows and columns in that order.
+ *               scores: the silhouette of each name, by row number, from -1 to 1 whatever the book holds. ordered: the book with rows and columns in that order.
  *               answer: 0, 0, the groups, the draws read.
- *   9, 7, 8, 3  order, sizes, scores and ordered as they were. answer: the number, its place, 0, 0.
+ *   9, 7, 8     order, sizes, scores and ordered as they were. answer: the number, its place, 0, 0.
  *   1, 2, 4, 5, 6  every list as it was. answer, which is what is returned and no output: the number, 0, 0, 0. An answer whose length is not 4 is as it
  *               was too, and the number is 1, 2, 4, 5 or 6 in that order.
  *
- * After 0, 9, 7, 8 and 3 the first 8 * n * n + 256 * n doubles of `floats` and the first 320 * n numbers of `numbers` are zero, and what lies
+ * After 0, 9, 7 and 8 the first 8 * n * n + 256 * n doubles of `floats` and the first 320 * n numbers of `numbers` are zero, and what lies
  * behind them is as it was.
  */
 size_t onc_get_onc_clusters_with_draws(

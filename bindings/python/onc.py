@@ -27,7 +27,7 @@ _ROUNDS = 32
 _CAUSES = {
     1: ("InvalidRepeat", "no repeats"),
     2: ("InvalidCorrelationMatrix", "the matrix is not square or has under two rows"),
-    3: ("ClusteringFailed", "no candidate has a t-stat above -infinity"),
+    3: ("ClusteringFailed", "no candidate has a t-stat above -infinity"),  # never returned: every round has a candidate
     4: ("TooLarge", "over 256 rows, over 64 repeats, or an average of over 65,536 values"),
     5: ("CellCount", "the cells are not rows times rows"),
     6: ("ListLength", "a list has the wrong length"),

@@ -140,7 +140,7 @@ impl Grouper {
 /// number of names everywhere give poor groupings: as shares they are close to 0. Proper ones start as random shares; a refusal by 8 names the place of a draw
 /// that is read as an index, and one by 7 says that another round starts, which reads no more than the first.
 ///
-/// Refusals: 1, 2, 4, 5; 9, 7, 8 and 3 as the run meets them.
+/// Refusals: 1, 2, 4, 5; 9, 7 and 8 as the run meets them.
 ///
 /// ```
 /// let book = [

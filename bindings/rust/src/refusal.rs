@@ -10,7 +10,7 @@ pub enum Refusal {
     InvalidRepeat,
     /// 2: not square, or under two rows.
     InvalidCorrelationMatrix,
-    /// 3: no candidate has a t-stat above -infinity.
+    /// 3: no candidate has a t-stat above -infinity. Never returned: every round has a candidate.
     ClusteringFailed,
     /// 4: over 256 rows, over 64 repeats, or an average of over 65,536 values.
     TooLarge,

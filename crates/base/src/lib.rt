@@ -62,6 +62,7 @@ fn base_of_book(
     match best_of_book(book, n, rows, repeat, draws, at, area, labels, scores) {
         Searched::Stopped(s) => Based::Stopped(s),
         Searched::Done(next, kept) => match kept {
+            // never so: each candidate has a t-stat above -infinity (crates/certain_runs)
             Kept::Nothing => Based::Stopped(Stop::ClusteringFailed),
             Kept::Candidate(_stat, _mean) => {
                 let groups = partition::groups_of(labels, order, sizes);

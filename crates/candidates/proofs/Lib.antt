@@ -1,8 +1,6 @@
 -- What the answers of the calls say of the definition (Answers.antt), laws of the candidates and of the best of them (Laws.antt), the
--- steps of the functions (Turns.antt), that a draw that ends the search is out of range (Bad.antt), and that none of its candidates has a t-stat
--- where a round finds none (Failed.antt).
+-- steps of the functions (Turns.antt), and that a draw that ends the search is out of range (Bad.antt).
 pub mod Answers
 pub mod Laws
 pub mod Turns
 pub mod Bad
-pub mod Failed

@@ -1,6 +1,5 @@
--- The candidates of a round and the best of them: Candidates.antt is the definition, Ranges.antt which draws are out of range, Failed.antt
--- a round without a candidate, Steps.antt what the functions ask and leave.
+-- The candidates of a round and the best of them: Candidates.antt is the definition, Ranges.antt which draws are out of range,
+-- Steps.antt what the functions ask and leave.
 pub mod Candidates
 pub mod Ranges
-pub mod Failed
 pub mod Steps

@@ -1,31 +1,24 @@
 -- A share is exact: d below 2 ^ 53 is a double, and so is d over 2 ^ 53.
-use Prim.Native.Nat.{ℕ, _+_, _*_, _^_, _<_, _≤_}
+use Prim.Native.Nat.{ℕ, _*_, _^_, _<_}
 use mathlib.Core.Path.{_≡_, sym, _∙_, ap, subst}
 use mathlib.Core.Bool.{true, false}
-use native.Mathlib.Nat.{mul-assoc, mul-comm, mul-pos, mul-one, lt-of-lt-of-le}
+use native.Mathlib.Nat.{mul-assoc, mul-comm, mul-pos}
 use native.Mathlib.Omega.{arith}
 use lib.Dec.{T}
-use lib.Pow.{pow-add, pow-pos, pow-mono, shl-lt}
-use lib.Ieee.{Float, nan, inf, fin, binary64, round, ofInt, div, up, down}
+use lib.Pow.{pow-add, pow-pos}
+use lib.Ieee.{Float, nan, inf, fin, binary64, round, div, up, down}
 use lib.Ieee.Exact.{HasValue, round-exact}
 use lib.Ieee.Fits.{down-pos}
 use lib.Ieee.Scale.{round-same}
 use Rattle.lists.specs.Sums.{counted}
+use Rattle.lists.proofs.Counted.{in-range, counted-exact}
 use Rattle.draws.specs.Draws.{full, ShareClaim}
-
--- d times 2 ^ j, counted in the smallest doubles, is in the range
-small : (d j : ℕ) → d < 2 ^ 53 → j < 1075 → d * 2 ^ j < 2 ^ 2098
-small d j h l = let k : 53 + j ≤ 2098 = omega arith in lt-of-lt-of-le (shl-lt 53 j h) (pow-mono k)
-
-counted-exact : (d : ℕ) → d < 2 ^ 53 → HasValue (counted d) false d 1
-unfolding ofInt
-counted-exact d h = round-exact binary64 false d 1 d 1074 (omega arith) h (small d 1074 h (omega arith)) (sym (mul-one (d * 2 ^ 1074)))
 
 scaled : (d : ℕ) → d * 2 ^ 1074 ≡ d * 2 ^ 1021 * 2 ^ 53
 scaled d = ap (λ (x : ℕ). d * x) (pow-add 2 1021 53) ∙ sym (mul-assoc d (2 ^ 1021) (2 ^ 53))
 
 over-exact : (d : ℕ) → d < 2 ^ 53 → HasValue (round binary64 false d (2 ^ 53)) false d (2 ^ 53)
-over-exact d h = round-exact binary64 false d (2 ^ 53) d 1021 (pow-pos 53) h (small d 1021 h (omega arith)) (scaled d)
+over-exact d h = round-exact binary64 false d (2 ^ 53) d 1021 (pow-pos 53) h (in-range d 1021 h (omega arith)) (scaled d)
 
 -- a double that is d, over 2 ^ 53
 divided : (x : Float) (d : ℕ) → HasValue x false d 1 → div binary64 x full ≡ round binary64 false d (2 ^ 53)

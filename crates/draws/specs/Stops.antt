@@ -6,7 +6,7 @@ use Rattle.draws.specs.declared.Draw.{Draw}
 use Rattle.draws.specs.declared.Draw.the-variants.{Value, Stopped}
 use Rattle.draws.specs.Draws.{Drawn, drawn, refused}
 
--- the table's number, and its place: for 7 the draws read so far, 0 where the table names none
+-- the table's number, and its place: for 7 the draws read so far, 0 where the table names none. 3 is never returned: onc/specs/Certain.antt
 abbrev pub stopNumber : Stop → ℕ
 stopNumber Rounds = 9
 stopNumber (Short read) = 7

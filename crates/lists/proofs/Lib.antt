@@ -9,3 +9,4 @@ pub mod Refilled
 pub mod Areas
 pub mod Sums
 pub mod Floats
+pub mod Counted

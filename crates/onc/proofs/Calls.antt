@@ -10,7 +10,10 @@ use lib.Ieee.{Float}
 use Rattle.refusals.specs.Table.{Refusal}
 use Rattle.draws.specs.declared.Stop.the-variants.{Rounds, Short, DrawOutOfRange, ClusteringFailed}
 use Rattle.partition.specs.Partition.{has}
-use Rattle.round.specs.Round.{Run, done, ended}
+use Rattle.round.specs.Round.{Run, done, ended, roundOf}
+use Rattle.certain_runs.specs.Certain.{CertainRun}
+use Rattle.certain_runs.proofs.Runs.{rounds}
+use Rattle.onc_run.proofs.Runs.{all, all-length}
 use Rattle.onc_answers.specs.declared.Onc.{Onc}
 use Rattle.onc_answers.specs.Answers.{Answer, numberOf, answerOf, refusing}
 use Rattle.onc_checks.specs.Checks.{listsFit, shapeOf}
@@ -47,15 +50,26 @@ pub within-ran : (book : List Float) (n repeat : ℕ) (draws : List ℕ) (l : Li
 within-ran book n repeat draws l w =
     call-ran book n n repeat draws l (ap (λ (q : Refusal). eqb (q .number) 0) (within-shape book n repeat l w))
 
+-- what is certain of a run, and so of that of a call within the limits
+pub run-certain : (book : List Float) (n repeat : ℕ) (draws : List ℕ) → 2 ≤ n → n ≤ 256 → 1 ≤ repeat → CertainRun n (runOf book n repeat draws)
+unfolding runOf
+run-certain book n repeat draws two few some =
+    let long : length (all n) ≡ n = all-length n in
+    subst (λ (k : ℕ). CertainRun k (roundOf book n repeat 32 (all n) 0 draws)) long
+    (rounds .certain book n repeat 32 some (all n) 0 draws (subst (λ (k : ℕ). 2 ≤ k) (sym long) two) (subst (λ (k : ℕ). k ≤ 256) (sym long) few))
+
+pub within-certain : (book : List Float) (n repeat : ℕ) (draws : List ℕ) {l : Lists} → Within book n repeat l → CertainRun n (runOf book n repeat draws)
+within-certain book n repeat draws w = run-certain book n repeat draws (w .limits .two) (w .limits .few) (w .limits .some)
+
 -- Demand 1 of what a run gives
 module _ (book : List Float) (rows cols repeat : ℕ) (l : Lists) (square : rows ≡ cols) (w : Within book rows repeat l) where
-  ran-first : (r : Run) → Demand1 book rows cols repeat (ran book rows r l) l
+  ran-first : (r : Run) → CertainRun rows r → Demand1 book rows cols repeat (ran book rows r l) l
   unfolding has
-  ran-first (done s ms read rest) = grouping square w refl (record { floats = refl; numbers = refl })
-  ran-first (ended Rounds ms) = not-ended square w refl refl refl (record { floats = refl; numbers = refl })
-  ran-first (ended (Short k) ms) = not-ended square w refl refl refl (record { floats = refl; numbers = refl })
-  ran-first (ended (DrawOutOfRange p) ms) = not-ended square w refl refl refl (record { floats = refl; numbers = refl })
-  ran-first (ended ClusteringFailed ms) = not-ended square w refl refl refl (record { floats = refl; numbers = refl })
+  ran-first (done s ms read rest) c = grouping square w refl (record { floats = refl; numbers = refl })
+  ran-first (ended Rounds ms) c = not-ended square w refl refl refl (record { floats = refl; numbers = refl })
+  ran-first (ended (Short k) ms) c = not-ended square w refl refl refl (record { floats = refl; numbers = refl })
+  ran-first (ended (DrawOutOfRange p) ms) c = not-ended square w refl refl refl (record { floats = refl; numbers = refl })
+  ran-first (ended ClusteringFailed ms) c = absurd (c refl)
 
 -- a refusal with the place 0
 at-zero : (q : Refusal) → q .place ≡ 0 → refusing q ≡ refusing (record { number = q .number; place = 0 })
@@ -64,7 +78,8 @@ at-zero q e = ap (λ (p : ℕ). refusing (record { number = q .number; place = p
 pub first : (book : List Float) (rows cols repeat : ℕ) (draws : List ℕ) (l : Lists) → Demand1 book rows cols repeat (groupOf book rows cols repeat draws l) l
 first book rows cols repeat draws l =
     by-call book rows cols repeat draws l (λ (o : Outcome). Demand1 book rows cols repeat o l)
-    (λ e. let h = shape-within book rows cols repeat l e in ran-first book rows cols repeat l (h .0) (h .1) (runOf book rows repeat draws))
+    (λ e. let h = shape-within book rows cols repeat l e in
+    ran-first book rows cols repeat l (h .0) (h .1) (runOf book rows repeat draws) (within-certain book rows repeat draws (h .1)))
     (λ e. not-started (shape-cause book rows cols repeat l e) (at-zero (shape book rows cols repeat l) (shape-place book rows cols repeat l)) refl)
 
 -- what the check of a call answers is the refusal before the run, though whether the lists fit is known of at most 256 names alone

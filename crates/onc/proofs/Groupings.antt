@@ -19,22 +19,22 @@ use Rattle.partition.specs.Partition.{Partition, State, has, labelOf, joined, g
 use Rattle.partition.specs.Orders.{sizesOf}
 use Rattle.draws.proofs.Taken.{Ends}
 use Rattle.draws.proofs.Bad.{Reads}
-use Rattle.candidates.specs.Candidates.{Best, nothing, found, bestOf}
+use Rattle.candidates.specs.Candidates.{Best, found, bestOf}
 use Rattle.candidates.specs.Ranges.{RoundOutOfRange}
 use Rattle.candidates.proofs.Laws.{Found, best-took}
 use Rattle.candidates.proofs.Bad.{best-bad}
-use Rattle.candidates.proofs.Failed.{best-none}
 use Rattle.round.specs.Round.{Run, done, ended, needOf, totalOf}
 use Rattle.partition.proofs.Cuts.{cut-joined, groups-few, partition-length}
 use Rattle.partition.proofs.Labels.{label-is, member-below}
 use Rattle.base.proofs.Scored.{Scored}
 use Rattle.round.proofs.Runs.{Whole, ScoredRun}
-use Rattle.round.proofs.Spends.{ReachedFrom, start, further, BadDraw, NoCandidate, Spends, searchOf as searchFrom, draws-none, draws-more, draws-one}
+use Rattle.round.proofs.Spends.{ReachedFrom, start, further, BadDraw, Spends, searchOf as searchFrom, draws-none, draws-more, draws-one}
 use Rattle.onc_run.specs.Run.{Lists, Outcome, runOf, finalOf, ran}
 use Rattle.onc_run.proofs.Runs.{all, all-length, run-spends, run-whole, run-scored}
 use Rattle.onc.specs.Onc.{groupOf}
-use Rattle.onc.specs.Demands.{Within, outputs, groupsIn, labelsIn, GroupingOf, searchOf, Reached, first, next, MeetsDraw, MeetsNone, NoneRefused, Demand2}
-use Rattle.onc.proofs.Calls.{within-ran}
+use Rattle.onc.specs.Demands.{Within, outputs, groupsIn, labelsIn, GroupingOf, searchOf, Reached, first, next, MeetsDraw, NoneRefused, Demand2}
+use Rattle.certain_runs.specs.Certain.{CertainRun}
+use Rattle.onc.proofs.Calls.{within-ran, within-certain}
 
 -- the sizes: those of the groups, and 0 after the last
 size-at : (n : ℕ) (gs : List (List ℕ)) (g : ℕ) → g < n → numbers (sizesOf n gs) g ≡ length (groupAt gs g)
@@ -130,47 +130,32 @@ module _ (book : List Float) (n repeat : ℕ) (draws : List ℕ) where
             (best-bad (distAt book n (k .items)) m repeat draws at (omega (arith, e, k .enough))),
       )
 
-  -- a run that finds no candidate has none with a t-stat above -infinity
-  pub meets-none : (ms : List ℕ) → NoCandidate book n repeat 32 (all n) 0 draws ms → MeetsNone book n repeat draws ms
-  meets-none ms k =
-      let at = totalOf repeat (k .before) in
-      let met : searchOf book n repeat draws (k .before) (k .items) ≡ drawn nothing (k .rest) = search-same (k .before) (k .items) (drawn nothing (k .rest)) (k .cause) in (
-        k .before,
-        k .items,
-        reached-same (k .reached),
-        k .rounds,
-        k .some,
-        k .enough,
-        search-rest (k .before) (k .items) nothing (k .rest) (k .some) met,
-        best-none (distAt book n (k .items)) (length (k .items)) repeat (k .some) at (drop at draws) (k .rest) met,
-      )
-
   -- the first round's count for each of 32 rounds is enough
-  not-seven : 32 * needOf repeat n ≤ length draws → (r : Run) → Spends book n repeat 32 (all n) 0 draws r → has (0 ∷ 9 ∷ 8 ∷ 3 ∷ []) (finalOf r .refused .number) ≡ true
+  not-seven : 32 * needOf repeat n ≤ length draws → (r : Run) → CertainRun n r → Spends book n repeat 32 (all n) 0 draws r → has (0 ∷ 9 ∷ 8 ∷ []) (finalOf r .refused .number) ≡ true
   unfolding has
-  not-seven h (done s ms read rest) k = refl
-  not-seven h (ended Rounds ms) k = refl
-  not-seven h (ended (Short p) ms) k =
+  not-seven h (done s ms read rest) c k = refl
+  not-seven h (ended Rounds ms) c k = refl
+  not-seven h (ended (Short p) ms) c k =
       let e : needOf repeat (length (all n)) ≡ needOf repeat n = ap (needOf repeat) (all-length n) in
       let y : ⊥ = omega (arith, k .least, ap (λ (c : ℕ). 32 * c) e) in
       absurd y
-  not-seven h (ended (DrawOutOfRange p) ms) k = refl
-  not-seven h (ended ClusteringFailed ms) k = refl
+  not-seven h (ended (DrawOutOfRange p) ms) c k = refl
+  not-seven h (ended ClusteringFailed ms) c k = absurd (c refl)
 
   -- a run that no refusal ends is done
-  none-refused : NoneRefused book n repeat draws → (r : Run) → Spends book n repeat 32 (all n) 0 draws r
+  none-refused : NoneRefused book n repeat draws → (r : Run) → CertainRun n r → Spends book n repeat 32 (all n) 0 draws r
       → (s : State) × (ms : List ℕ) × (read : ℕ) × (rest : List ℕ) × (r ≡ done s ms read rest)
-  none-refused h (done s ms read rest) k = (s, ms, read, rest, refl)
-  none-refused h (ended Rounds ms) k =
+  none-refused h (done s ms read rest) c k = (s, ms, read, rest, refl)
+  none-refused h (ended Rounds ms) c k =
       let y : ⊥ = omega (arith, k .count, h .few ms (k .items) (reached-same (k .reached))) in
       absurd y
-  none-refused h (ended (Short p) ms) k =
+  none-refused h (ended (Short p) ms) c k =
       let y : ⊥ = omega (arith, k .short, h .enough ms (k .items) (reached-same (k .reached))) in
       absurd y
-  none-refused h (ended (DrawOutOfRange p) ms) k =
+  none-refused h (ended (DrawOutOfRange p) ms) c k =
       let met = meets-draw p ms k in
       absurd (h .in-range (met .0) (met .1) p (met .2) (met .10))
-  none-refused h (ended ClusteringFailed ms) k = let met = meets-none ms k in absurd (h .candidate (met .0) (met .1) (met .2) (met .7))
+  none-refused h (ended ClusteringFailed ms) c k = absurd (c refl)
 
 -- number 0 is a run that ended in a partition
 of-zero : (r : Run) → finalOf r .refused .number ≡ 0 → (s : State) × (ms : List ℕ) × (read : ℕ) × (rest : List ℕ) × (r ≡ done s ms read rest)
@@ -184,14 +169,17 @@ pub second : (book : List Float) (n repeat : ℕ) (draws : List ℕ) (l : Lists)
 second book n repeat draws l w =
     record {
       exact = exact;
-      answered = λ h. let d = none-refused book n repeat draws h r took in (d .0, d .1, d .2, d .3, d .4, grouping (d .0) (d .1) (d .2) (d .3) (d .4));
-      not-short = λ h. ap (has (0 ∷ 9 ∷ 8 ∷ 3 ∷ [])) number ∙ not-seven book n repeat draws h r took;
+      answered = λ h. let d = none-refused book n repeat draws h r sure took in (d .0, d .1, d .2, d .3, d .4, grouping (d .0) (d .1) (d .2) (d .3) (d .4));
+      not-short = λ h. ap (has (0 ∷ 9 ∷ 8 ∷ [])) number ∙ not-seven book n repeat draws h r sure took;
       grouped = λ h. of-zero r (sym number ∙ h);
       grouping = grouping;
     }
   where
     r : Run
     r = runOf book n repeat draws
+
+    sure : CertainRun n r
+    sure = within-certain book n repeat draws w
 
     took : Spends book n repeat 32 (all n) 0 draws r
     took = run-spends book n repeat draws (w .limits .two)

@@ -4,3 +4,4 @@ pub mod Demands
 pub mod Groupings
 pub mod Reading
 pub mod Shapes
+pub mod Certain

@@ -16,13 +16,14 @@ use Rattle.partition.specs.Partition.{State}
 use Rattle.candidates.specs.Candidates.{found}
 use Rattle.round.specs.Round.{Run, done, ended, needOf, totalOf}
 use Rattle.round.proofs.Spends.{Spends}
+use Rattle.certain_runs.specs.Certain.{CertainRun}
 use Rattle.onc_run.specs.Run.{Lists, Outcome, runOf, finalOf, ran}
 use Rattle.onc.specs.Onc.{shape, groupOf}
 use Rattle.onc.specs.Demands.{Cause, no-repeat, not-square, few-rows, many-rows, many-repeats, cell-count, list-length, outputs, labelsIn, roundsOf, AsLong, Counted, EndsBy, Tells, Demand3}
 use Rattle.onc.proofs.Shapes.{shape-cause, shape-within, shape-same}
-use Rattle.onc.proofs.Calls.{call-ran, by-call, within-ran}
+use Rattle.onc.proofs.Calls.{call-ran, by-call, within-ran, run-certain, within-certain}
 use Rattle.onc_run.proofs.Runs.{all, all-length, run-spends}
-use Rattle.onc.proofs.Groupings.{search-same, reached-same, meets-draw, meets-none}
+use Rattle.onc.proofs.Groupings.{search-same, reached-same, meets-draw}
 
 -- no refusal before the run has the number 0 or 7
 not-seven : {book : List Float} {rows cols repeat : ℕ} {l : Lists} {k : ℕ} → Cause book rows cols repeat l k → k ≡ 7 → ⊥
@@ -39,8 +40,8 @@ not-zero k h e = impossible (sym h ∙ eq-eqb k 0 e)
 
 -- what a run takes of its draws, from its first round on
 module _ (book : List Float) (rows repeat : ℕ) (draws : List ℕ) where
-  ends-by : (r : Run) → Spends book rows repeat 32 (all rows) 0 draws r → EndsBy book rows repeat draws r
-  ends-by (done s ms read rest) k =
+  ends-by : (r : Run) → CertainRun rows r → Spends book rows repeat 32 (all rows) 0 draws r → EndsBy book rows repeat draws r
+  ends-by (done s ms read rest) c k =
       let count : read ≡ totalOf repeat ms = omega (arith, k .place) in (
         count,
         k .remain ∙ ap (λ (i : ℕ). drop i draws) (sym count),
@@ -52,33 +53,33 @@ module _ (book : List Float) (rows repeat : ℕ) (draws : List ℕ) where
         search-same book rows repeat draws (k .before) (k .items) (drawn (found (k .best)) rest) (k .cause),
         k .kept,
       )
-  ends-by (ended Rounds ms) k = (k .count, k .items, reached-same book rows repeat draws (k .reached))
-  ends-by (ended (Short p) ms) k =
+  ends-by (ended Rounds ms) c k = (k .count, k .items, reached-same book rows repeat draws (k .reached))
+  ends-by (ended (Short p) ms) c k =
       let count : p ≡ totalOf repeat ms = omega (arith, k .place) in (count, k .items, reached-same book rows repeat draws (k .reached), omega (arith, count, k .short))
-  ends-by (ended (DrawOutOfRange p) ms) k = meets-draw book rows repeat draws p ms k
-  ends-by (ended ClusteringFailed ms) k = meets-none book rows repeat draws ms k
+  ends-by (ended (DrawOutOfRange p) ms) c k = meets-draw book rows repeat draws p ms k
+  ends-by (ended ClusteringFailed ms) c k = c refl
 
-  few-rounds : (r : Run) → Spends book rows repeat 32 (all rows) 0 draws r → length (roundsOf r) ≤ 32
-  few-rounds (done s ms read rest) k = k .count
-  few-rounds (ended Rounds ms) k = omega (arith, k .count)
-  few-rounds (ended (Short p) ms) k = omega (arith, k .count)
-  few-rounds (ended (DrawOutOfRange p) ms) k = k .count
-  few-rounds (ended ClusteringFailed ms) k = k .count
+  few-rounds : (r : Run) → CertainRun rows r → Spends book rows repeat 32 (all rows) 0 draws r → length (roundsOf r) ≤ 32
+  few-rounds (done s ms read rest) c k = k .count
+  few-rounds (ended Rounds ms) c k = omega (arith, k .count)
+  few-rounds (ended (Short p) ms) c k = omega (arith, k .count)
+  few-rounds (ended (DrawOutOfRange p) ms) c k = k .count
+  few-rounds (ended ClusteringFailed ms) c k = absurd (c refl)
 
-  draws-there : (r : Run) → Spends book rows repeat 32 (all rows) 0 draws r → totalOf repeat (roundsOf r) ≤ length draws
-  draws-there (done s ms read rest) k = k .enough
-  draws-there (ended Rounds ms) k = k .enough
-  draws-there (ended (Short p) ms) k = k .enough
-  draws-there (ended (DrawOutOfRange p) ms) k = k .enough
-  draws-there (ended ClusteringFailed ms) k = k .enough
+  draws-there : (r : Run) → CertainRun rows r → Spends book rows repeat 32 (all rows) 0 draws r → totalOf repeat (roundsOf r) ≤ length draws
+  draws-there (done s ms read rest) c k = k .enough
+  draws-there (ended Rounds ms) c k = k .enough
+  draws-there (ended (Short p) ms) c k = k .enough
+  draws-there (ended (DrawOutOfRange p) ms) c k = k .enough
+  draws-there (ended ClusteringFailed ms) c k = absurd (c refl)
 
   -- what the run's end is told as
-  run-tells : (l : Lists) (r : Run) → Tells r (ran book rows r l .answer)
-  run-tells l (done s ms read rest) = refl
-  run-tells l (ended Rounds ms) = refl
-  run-tells l (ended (Short k) ms) = refl
-  run-tells l (ended (DrawOutOfRange p) ms) = refl
-  run-tells l (ended ClusteringFailed ms) = refl
+  run-tells : (l : Lists) (r : Run) → CertainRun rows r → Tells r (ran book rows r l .answer)
+  run-tells l (done s ms read rest) c = refl
+  run-tells l (ended Rounds ms) c = refl
+  run-tells l (ended (Short k) ms) c = refl
+  run-tells l (ended (DrawOutOfRange p) ms) c = refl
+  run-tells l (ended ClusteringFailed ms) c = c refl
 
   -- the place of 7
   of-short : (r : Run) → Spends book rows repeat 32 (all rows) 0 draws r → finalOf r .refused .number ≡ 7 → finalOf r .refused .place ≡ totalOf repeat (roundsOf r)
@@ -133,8 +134,10 @@ third book rows cols repeat draws l =
           (λ e. let w = shape-within book rows cols repeat l e .1 in of-short book rows repeat draws r (took (w .limits .two)))
           (λ e h. absurd (not-seven (shape-cause book rows cols repeat l e) h));
       tells = λ square w. subst (λ (c : ℕ). Tells r (groupOf book rows c repeat draws l .answer)) square
-          (subst (λ (o : Outcome). Tells r (o .answer)) (sym (within-ran book rows repeat draws l w)) (run-tells book rows repeat draws l r));
-      reads = λ two. record { rounds = few-rounds book rows repeat draws r (took two); there = draws-there book rows repeat draws r (took two); ends = ends-by book rows repeat draws r (took two) };
+          (subst (λ (o : Outcome). Tells r (o .answer)) (sym (within-ran book rows repeat draws l w)) (run-tells book rows repeat draws l r (within-certain book rows repeat draws w)));
+      reads = λ two few some.
+          let c = run-certain book rows repeat draws two few some in
+          record { rounds = few-rounds book rows repeat draws r c (took two); there = draws-there book rows repeat draws r c (took two); ends = ends-by book rows repeat draws r c (took two) };
     }
   where
     r : Run

@@ -14,9 +14,8 @@ use Rattle.draws.specs.Draws.{Drawn, drawn, refused}
 use Rattle.draws.specs.declared.Stop.the-variants.{Rounds, Short, DrawOutOfRange, ClusteringFailed}
 use Rattle.partition.specs.Partition.{Partition, State, has, groupAt, labelOf, joined}
 use Rattle.partition.specs.Orders.{sizesOf, cut}
-use Rattle.candidates.specs.Candidates.{Candidate, Best, nothing, found, bestOf}
+use Rattle.candidates.specs.Candidates.{Candidate, Best, found, bestOf}
 use Rattle.candidates.specs.Ranges.{RoundOutOfRange}
-use Rattle.candidates.specs.Failed.{NoStats}
 use Rattle.quality.specs.Quality.{qualitiesOf, weakCount}
 use Rattle.base.specs.Base.{baseOf}
 use Rattle.improve_merge.specs.Merging.{weakItems}
@@ -91,7 +90,7 @@ pub data Demand1 (book : List Float) (rows cols repeat : ℕ) (o : Outcome) (l :
   grouping : rows ≡ cols → Within book rows repeat l → o .answer .refused ≡ none → Wiped rows o l → Demand1 book rows cols repeat o l
   not-started : Cause book rows cols repeat l (o .answer .refused .number) → o .answer ≡ refusing (record { number = o .answer .refused .number; place = 0 }) → o .lists ≡ l
       → Demand1 book rows cols repeat o l
-  not-ended : rows ≡ cols → Within book rows repeat l → has (9 ∷ 7 ∷ 8 ∷ 3 ∷ []) (o .answer .refused .number) ≡ true → o .answer ≡ refusing (o .answer .refused)
+  not-ended : rows ≡ cols → Within book rows repeat l → has (9 ∷ 7 ∷ 8 ∷ []) (o .answer .refused .number) ≡ true → o .answer ≡ refusing (o .answer .refused)
       → outputs o ≡ untouched o l → Wiped rows o l → Demand1 book rows cols repeat o l
 
 -- the answer and the outputs are those of the definition's partition s: a name belongs to one group and to no other, each number below the count of groups is
@@ -132,32 +131,21 @@ MeetsDraw book n repeat draws p ms =
     × (totalOf repeat ms ≤ length draws) × (p < length draws) × (totalOf repeat before ≤ p) × (p < totalOf repeat before + needOf repeat (length items))
     × (searchOf book n repeat draws before items ≡ refused p) × RoundOutOfRange (distAt book n items) (length items) repeat (totalOf repeat before) draws p
 
--- how 3 is met: in the last round that started, which is reached, has two items or more, and takes exactly its count of draws. Its search finds no
--- candidate, since in no repeat and for no number of groups is there one whose t-stat is above -infinity, which a NaN is not.
-abbrev pub MeetsNone : List Float → ℕ → ℕ → List ℕ → List ℕ → Type 0
-MeetsNone book n repeat draws ms =
-    (before : List ℕ) × (items : List ℕ) × Reached book n repeat draws before items × (ms ≡ before ++ (length items ∷ [])) × (2 ≤ length items)
-    × (totalOf repeat ms ≤ length draws) × (searchOf book n repeat draws before items ≡ drawn nothing (drop (totalOf repeat before + needOf repeat (length items)) draws))
-    × NoStats (distAt book n items) (length items) repeat (totalOf repeat before) (drop (totalOf repeat before) draws)
-
--- no round that is reached is refused: it is not the 33rd (9), its draws are there (7) and in range (8), and it has a candidate whose t-stat is above
--- -infinity (3)
+-- no round that is reached is refused: it is not the 33rd (9), and its draws are there (7) and in range (8)
 pub record NoneRefused (book : List Float) (n repeat : ℕ) (draws : List ℕ) : Type 0 where
   pub few : (before items : List ℕ) → Reached book n repeat draws before items → length before < 32
   pub enough : (before items : List ℕ) → Reached book n repeat draws before items → totalOf repeat before + needOf repeat (length items) ≤ length draws
   pub in-range : (before items : List ℕ) (p : ℕ) → Reached book n repeat draws before items
       → RoundOutOfRange (distAt book n items) (length items) repeat (totalOf repeat before) draws p → ⊥
-  pub candidate : (before items : List ℕ) → Reached book n repeat draws before items
-      → NoStats (distAt book n items) (length items) repeat (totalOf repeat before) (drop (totalOf repeat before) draws) → ⊥
 
--- Demand 2. Within the limits a call answers and leaves exactly what the run of the definition gives. With enough draws in range, at most 32 rounds and a
--- candidate in each it is a grouping. A list of 32 times the first round's count is enough draws: then 7 is not answered. Where the run ends in a
--- partition, so does the call, and nowhere else.
+-- Demand 2. Within the limits a call answers and leaves exactly what the run of the definition gives. With enough draws in range and at most 32 rounds
+-- it is a grouping. A list of 32 times the first round's count is enough draws: then 7 is not answered. Where the run ends in a partition, so does the
+-- call, and nowhere else.
 pub record Demand2 (book : List Float) (n repeat : ℕ) (draws : List ℕ) (l : Lists) : Type 0 where
   pub exact : groupOf book n n repeat draws l ≡ ran book n (runOf book n repeat draws) l
   pub answered : NoneRefused book n repeat draws → (s : State) × (ms : List ℕ) × (read : ℕ) × (rest : List ℕ) × (runOf book n repeat draws ≡ done s ms read rest)
       × GroupingOf book n s (groupOf book n n repeat draws l)
-  pub not-short : 32 * needOf repeat n ≤ length draws → has (0 ∷ 9 ∷ 8 ∷ 3 ∷ []) (groupOf book n n repeat draws l .answer .refused .number) ≡ true
+  pub not-short : 32 * needOf repeat n ≤ length draws → has (0 ∷ 9 ∷ 8 ∷ []) (groupOf book n n repeat draws l .answer .refused .number) ≡ true
   pub grouping : (s : State) (ms : List ℕ) (read : ℕ) (rest : List ℕ) → runOf book n repeat draws ≡ done s ms read rest
       → GroupingOf book n s (groupOf book n n repeat draws l)
   pub grouped : groupOf book n n repeat draws l .answer .refused .number ≡ 0
@@ -190,8 +178,8 @@ pub record Counted (book : List Float) (rows cols repeat : ℕ) (draws : List �
 
 -- What a run of n names reads of its draws, however it ends. At most 32 rounds start, and their draws were there. A grouping comes after a round that is
 -- reached and finds a candidate with two weak groups or fewer. 9 and 7 are met by a round that is reached and does not start: 9 after 32 rounds, 7 where
--- fewer draws remain than the round needs, and 7 gives the sum over the rounds that started. 8 is met at a draw out of range, and at no other, and 3
--- where no candidate has a t-stat above -infinity.
+-- fewer draws remain than the round needs, and 7 gives the sum over the rounds that started. 8 is met at a draw out of range, and at no other. 3 is
+-- not met: every round that starts and is not ended by 8 finds a candidate.
 abbrev pub EndsBy : List Float → ℕ → ℕ → List ℕ → Run → Type 0
 EndsBy book n repeat draws (done s ms read rest) =
     (read ≡ totalOf repeat ms) × (rest ≡ drop read draws)
@@ -201,30 +189,30 @@ EndsBy book n repeat draws (ended Rounds ms) = (length ms ≡ 32) × (items : Li
 EndsBy book n repeat draws (ended (Short k) ms) =
     (k ≡ totalOf repeat ms) × (items : List ℕ) × Reached book n repeat draws ms items × (length draws < k + needOf repeat (length items))
 EndsBy book n repeat draws (ended (DrawOutOfRange p) ms) = MeetsDraw book n repeat draws p ms
-EndsBy book n repeat draws (ended ClusteringFailed ms) = MeetsNone book n repeat draws ms
+EndsBy book n repeat draws (ended ClusteringFailed ms) = ⊥
 
 pub record DrawsRead (book : List Float) (n repeat : ℕ) (draws : List ℕ) (r : Run) : Type 0 where
   pub rounds : length (roundsOf r) ≤ 32
   pub there : totalOf repeat (roundsOf r) ≤ length draws
   pub ends : EndsBy book n repeat draws r
 
--- what a call answers by how its run ends: the number and place of each refusal, and of a grouping its groups and the draws read
+-- what a call answers by how its run ends: the number and place of each refusal, of which 3 is none, and of a grouping its groups and the draws read
 abbrev pub Tells : Run → Answer → Type 0
 Tells (done s ms read rest) a = a ≡ record { refused = none; groups = length (s .groups); read = read }
 Tells (ended Rounds ms) a = a ≡ refusing (record { number = 9; place = 0 })
 Tells (ended (Short k) ms) a = a ≡ refusing (record { number = 7; place = k })
 Tells (ended (DrawOutOfRange p) ms) a = a ≡ refusing (record { number = 8; place = p })
-Tells (ended ClusteringFailed ms) a = a ≡ refusing (record { number = 3; place = 0 })
+Tells (ended ClusteringFailed ms) a = ⊥
 
 -- Demand 3: how many draws a call reads. Where it ends in a grouping, no others matter (`Counted`); 7 gives the sum over the rounds that started; and each way in
--- which a run ends is told by its number and place, and met as `EndsBy` says.
+-- which a run ends is told by its number and place, and met as `EndsBy` says. The runs of calls have 2 to 256 names and one repeat or more.
 pub record Demand3 (book : List Float) (rows cols repeat : ℕ) (draws : List ℕ) (l : Lists) : Type 0 where
   pub grouped : groupOf book rows cols repeat draws l .answer .refused .number ≡ 0
       → Counted book rows cols repeat draws l (groupOf book rows cols repeat draws l .answer .read)
   pub short : groupOf book rows cols repeat draws l .answer .refused .number ≡ 7
       → groupOf book rows cols repeat draws l .answer .refused .place ≡ totalOf repeat (roundsOf (runOf book rows repeat draws))
   pub tells : rows ≡ cols → Within book rows repeat l → Tells (runOf book rows repeat draws) (groupOf book rows cols repeat draws l .answer)
-  pub reads : 2 ≤ rows → DrawsRead book rows repeat draws (runOf book rows repeat draws)
+  pub reads : 2 ≤ rows → rows ≤ 256 → 1 ≤ repeat → DrawsRead book rows repeat draws (runOf book rows repeat draws)
 
 -- the three demands, of every call
 pub record Demands : Type 0 where

@@ -103,7 +103,7 @@ pub record BadDraw (book : List Float) (n repeats left : ℕ) (rows : List ℕ) 
   pub count : length ms ≤ left
   pub few : Few (length rows) ms
 
--- a run that ends with 9 or 3
+-- a run that ends with 9
 pub record NoRound (book : List Float) (n repeats left : ℕ) (rows : List ℕ) (read : ℕ) (ds ms : List ℕ) : Type 0 where
   pub count : length ms ≡ left
   pub enough : totalOf repeats ms ≤ length ds
@@ -112,27 +112,13 @@ pub record NoRound (book : List Float) (n repeats left : ℕ) (rows : List ℕ) 
   pub items : List ℕ
   pub reached : ReachedFrom book n repeats rows read ds ms items
 
-pub record NoCandidate (book : List Float) (n repeats left : ℕ) (rows : List ℕ) (read : ℕ) (ds ms : List ℕ) : Type 0 where
-  pub before : List ℕ
-  pub items : List ℕ
-  pub rounds : ms ≡ before ++ (length items ∷ [])
-  pub reached : ReachedFrom book n repeats rows read ds before items
-  -- the last round's search found none
-  pub rest : List ℕ
-  pub cause : searchOf book n repeats read ds before items ≡ drawn nothing rest
-  -- that round has two items or more
-  pub some : 2 ≤ length items
-  pub count : length ms ≤ left
-  pub enough : totalOf repeats ms ≤ length ds
-  pub few : Few (length rows) ms
-
--- the claim of one round, from the draws read before it
+-- the claim of one round, from the draws read before it; that no round ends with 3 is in certain_runs
 abbrev pub Spends : List Float → ℕ → ℕ → ℕ → List ℕ → ℕ → List ℕ → Run → Type 0
 Spends book n repeats left rows read ds (done s ms last rest) = Finished book n repeats left rows read ds s ms last rest
 Spends book n repeats left rows read ds (ended (Short k) ms) = TooFew book n repeats left rows read ds k ms
 Spends book n repeats left rows read ds (ended (DrawOutOfRange p) ms) = BadDraw book n repeats left rows read ds p ms
 Spends book n repeats left rows read ds (ended Rounds ms) = NoRound book n repeats left rows read ds ms
-Spends book n repeats left rows read ds (ended ClusteringFailed ms) = NoCandidate book n repeats left rows read ds ms
+Spends book n repeats left rows read ds (ended ClusteringFailed ms) = Unit
 
 -- the draws of no round, of one, and of one more
 pub draws-none : (repeats : ℕ) → totalOf repeats [] ≡ 0
@@ -296,19 +282,7 @@ module _ (book : List Float) (n repeats left : ℕ) (rows : List ℕ) (read : �
           items = s .items;
           reached = inner-reached h (s .reached);
         }
-    inner-spends h (ended ClusteringFailed ms) s =
-        record {
-          before = m ∷ s .before;
-          items = s .items;
-          rounds = ap (λ (l : List ℕ). m ∷ l) (s .rounds);
-          reached = inner-reached h (s .reached);
-          rest = s .rest;
-          cause = inner-cause (s .before) (s .items) (drawn nothing (s .rest)) (s .cause);
-          some = s .some;
-          count = omega (arith, s .count);
-          enough = omega (arith, draws-more repeats m ms, s .enough, remains);
-          few = few-more m (length inner) ms fewer (s .few);
-        }
+    inner-spends h (ended ClusteringFailed ms) s = tt
     inner-spends h (ended (Short k) ms) s =
         let z = draws-more repeats m ms in
         let most : left * needOf repeats (length inner) ≤ left * c = mul-le-mul-left left less in
@@ -379,8 +353,7 @@ module _ (book : List Float) (n repeats left : ℕ) (rows : List ℕ) (read : �
 
       of-best : (D : Drawn Best) → bestOf (distAt book n rows) m repeats read ds ≡ D → c ≤ length ds → Ends (λ b l. Found (distAt book n rows) m b × (l ≡ drop c ds) × (c ≤ length ds)) (λ p. (read ≤ p) × (p < read + c)) D
           → Stops (ofBest m D)
-      of-best (drawn nothing l) q e h =
-          record { before = []; items = rows; rounds = refl; reached = start; rest = l; cause = at-first ∙ q; some = some; count = omega arith; enough = omega (arith, one); few = few-one m }
+      of-best (drawn nothing l) q e h = tt
       of-best (drawn (found k) l) q e h = tt
       of-best (refused p) q e h =
           record {

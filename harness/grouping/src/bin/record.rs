@@ -123,12 +123,10 @@ fn listed(clusters: &BTreeMap<usize, Vec<usize>>, n: usize) -> [Vec<u64>; 2] {
     [order, sizes]
 }
 
-/// Of a run of two rounds, whether its re-clustering was kept: then it answers the partition with the weak groups clustered again, else its
-/// first round's base. None where the two partitions are equal, or the run has no grouping.
-fn kept(call: &Call) -> Option<bool> {
+/// Of a run of two rounds, its first round's base, and the partition with the weak groups clustered again.
+fn reclustered(call: &Call) -> [open::State; 2] {
     let (n, repeat) = (call.rows, call.repeat);
     let rows = matrix(&call.book, n);
-    let [order, sizes, _, _] = expected(call).outputs?;
     install(Control::new(Source::List(call.draws.clone()), repeat as u64, 32));
     let mut rng = StdRng::seed_from_u64(0);
     let base = open::base(&rows, (n - 1).max(2), repeat, &mut rng).unwrap();
@@ -139,8 +137,15 @@ fn kept(call: &Call) -> Option<bool> {
     let inner = open::base(&open::submatrix(&rows, &redo), (redo.len() - 1).max(2), repeat, &mut rng).unwrap();
     install(Control::plain());
     let again = inner.clusters.into_iter().map(|(k, group)| (k, group.into_iter().map(|i| redo[i]).collect())).collect();
-    let new = listed(&open::improve(&rows, &strong, &again).unwrap().clusters, n);
-    let old = listed(&base.clusters, n);
+    let new = open::improve(&rows, &strong, &again).unwrap();
+    [base, new]
+}
+
+/// Of a run of two rounds, whether its re-clustering was kept: then it answers the partition with the weak groups clustered again, else its
+/// first round's base. None where the two partitions are equal, or the run has no grouping.
+fn kept(call: &Call) -> Option<bool> {
+    let [order, sizes, _, _] = expected(call).outputs?;
+    let [old, new] = reclustered(call).map(|s| listed(&s.clusters, call.rows));
     if new == old {
         return None;
     }
@@ -336,6 +341,22 @@ fn small_books(w: &mut Recorder, r: &mut Random, enough: usize) {
     }
 }
 
+/// Books with holes whose re-clustering has a NaN among its scores, and is not kept: a name's NaN cell stands in the column of a strong group,
+/// so that the inner book does not have it. Blocks with one NaN cell are tried until there are enough.
+fn holes(w: &mut Recorder, r: &mut Random) {
+    let kind = "re-clustering with a NaN among its scores";
+    while w.has(kind) < 6 {
+        let n = r.from(5, 8);
+        let mut book = of_kind(r, 1, n);
+        book[r.below(n * n)] = f64::NAN;
+        let (call, rounds) = seeded(r, book, n, 1);
+        if rounds.len() == 2 && expected(&call).outputs.is_some() && reclustered(&call)[1].scores.iter().any(|s| s.is_nan()) {
+            assert!(kept(&call) == Some(false), "a re-clustering with a NaN is kept");
+            w.call(kind, &call);
+        }
+    }
+}
+
 fn main() {
     silence();
     let quiet = std::env::args().nth(1).as_deref() == Some("kinds");
@@ -346,6 +367,7 @@ fn main() {
     several_rounds(&mut w, &mut r);
     many_rounds(&mut w, &mut r);
     small_books(&mut w, &mut r, 322);
+    holes(&mut w, &mut r);
     if !quiet {
         return;
     }

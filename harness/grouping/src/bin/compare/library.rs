@@ -1,4 +1,5 @@
 //! The functions of the proved archives, and a call of the grouping with all that it writes.
+use crate::certain::Certain;
 use grouping_harness::call::{bits, Answer, Call};
 use kmeans_harness::leaf::{floats_for, numbers_for};
 use kmeans_harness::lent::Lent;
@@ -133,13 +134,15 @@ fn cells(list: &[u64], doubles: bool) -> Vec<u64> {
     list.iter().map(|&x| if doubles { bits(f64::from_bits(x)) } else { x }).collect()
 }
 
-/// What of a call differs, in words; nothing where all is as expected.
-pub fn differences(r: &mut Random, call: &Call, want: &Answer) -> Vec<String> {
+/// What of a call differs, in words; nothing where all is as expected. What it left is looked at for what is certain of every book too.
+pub fn differences(r: &mut Random, call: &Call, want: &Answer, certain: &mut Certain) -> Vec<String> {
     let mut book = Lent::new(r, call.book.iter().map(|x| x.to_bits()));
     let mut draws = Lent::new(r, call.draws.iter().copied());
     let mut lists = call.lent.map(|n| Lent::any(r, n));
     let number = unsafe { grouping(call, book.at::<u64>(), draws.at(), lists.each_mut().map(|list| list.at())) };
     let [order, sizes, scores, ordered, floats, numbers, answer] = &lists;
+    let groups = answer.list().get(2).map_or(0, |&groups| groups as usize);
+    certain.look(call, number, groups, [order.list(), sizes.list(), scores.list(), ordered.list()]);
     let mut differ = Vec::new();
     let mut note = |right: bool, what: &dyn Fn() -> String| {
         if !right {

@@ -1,4 +1,5 @@
 //! Whole runs on made-up books: each with the draws of a seeded run, with hostile lists of draws, and with lists or sizes that are wrong.
+use crate::certain::Certain;
 use crate::library::differences;
 use grouping_harness::books::{named, of_kind};
 use grouping_harness::call::{by_rust, expected, Answer, Call};
@@ -14,6 +15,7 @@ struct Counts {
     calls: BTreeMap<(&'static str, String), (usize, usize)>,
     compared: usize,
     differ: usize,
+    certain: Certain,
 }
 
 impl Counts {
@@ -22,7 +24,7 @@ impl Counts {
     }
     /// Compares a call with what it must answer.
     fn add(&mut self, r: &mut Random, call: &Call, want: &Answer, kind: &str) {
-        let found = differences(r, call, want);
+        let found = differences(r, call, want, &mut self.certain);
         let wrong = usize::from(!found.is_empty());
         self.compared += 1;
         self.differ += wrong;
@@ -47,6 +49,7 @@ impl Counts {
         for ((heading, kind), (compared, differ)) in &self.calls {
             println!("{heading:7} {kind:28} {compared:9} compared, {differ} differ");
         }
+        self.certain.print();
         println!("{books} books, {} calls compared, {} differ", self.compared, self.differ);
     }
 }
@@ -221,5 +224,5 @@ pub fn runs(seed: u64, books: usize) -> bool {
         one_book(&mut r, &mut counts, n);
     }
     counts.print(books);
-    counts.differ == 0
+    counts.differ == 0 && counts.certain.holds()
 }

@@ -1,0 +1,76 @@
+-- Whether some place has a NaN, whether two numbers are equal, and counts that are not 0.
+use Prim.Native.Nat.{ℕ, zero, suc, _+_, _<_}
+use mathlib.Core.Path.{_≡_, refl, subst}
+use mathlib.Core.Logic.{_⊎_, inl, inr, ⊎-elim}
+use mathlib.Core.Bool.{Bool, true, false, cond}
+use native.Mathlib.Nat.{eq-or-lt-of-le}
+use native.Mathlib.Omega.{arith}
+use borrow.Author.Tests.{eqb-true, eqb-false}
+use lib.Dec.{eqb}
+use lib.Ieee.{Float, nan, inf, fin}
+use Rattle.lists.specs.Sums.{foldIf, countIf}
+use Rattle.certain_holes.specs.Holes.{Hole, Whole}
+
+-- at some place below n, or at none
+pub somewhere : (P : ℕ → Type 0) (Q : ℕ → Type 0) → ((i : ℕ) → P i ⊎ Q i) → (n : ℕ) → ((i : ℕ) × (i < n) × P i) ⊎ ((i : ℕ) → i < n → Q i)
+somewhere P Q d zero = inr (λ i h. absurd (omega arith))
+somewhere P Q d (suc n) = ⊎-elim
+    (λ (s : (i : ℕ) × (i < n) × P i). inl (s .0, more (s .0) n (s .1), s .2))
+    (λ a. ⊎-elim
+    (λ p. inl (n, omega arith, p))
+    (λ q. inr (λ i h. ⊎-elim (λ (e : suc i ≡ suc n). let f : n ≡ i = omega arith in subst Q f q) (λ (l : suc i < suc n). a i (omega arith)) (eq-or-lt-of-le h)))
+    (d n))
+    (somewhere P Q d n)
+  where
+    more : (i n : ℕ) → i < n → i < suc n
+    more i n h = omega arith
+
+pub nan-or-not : (y : Float) → (y ≡ nan) ⊎ (y ≡ nan → ⊥)
+nan-or-not nan = inl refl
+nan-or-not (inf s) = inr (λ e. subst apart e tt)
+  where
+    apart : Float → Type 0
+    apart nan = ⊥
+    apart (inf s) = Unit
+    apart (fin s m e) = Unit
+nan-or-not (fin s m e) = inr (λ e. subst apart e tt)
+  where
+    apart : Float → Type 0
+    apart nan = ⊥
+    apart (inf s) = Unit
+    apart (fin s m e) = Unit
+
+pub number-or-not : (a b : ℕ) → (a ≡ b) ⊎ (a ≡ b → ⊥)
+number-or-not a b = go (eqb a b) refl
+  where
+    go : (t : Bool) → eqb a b ≡ t → (a ≡ b) ⊎ (a ≡ b → ⊥)
+    go true e = inl (eqb-true a b e)
+    go false e = inr (eqb-false a b e)
+
+pub hole-or-whole : (a : ℕ → Float) (m : ℕ) → Hole a m ⊎ Whole a m
+hole-or-whole a m = somewhere (λ c. a c ≡ nan) (λ c. a c ≡ nan → ⊥) (λ c. nan-or-not (a c)) m
+
+-- ---- counts
+pub count-some : (p : ℕ → Bool) (n j : ℕ) → j < n → p j ≡ true → 0 < countIf p n
+unfolding foldIf
+count-some p zero j h t = absurd (omega arith)
+count-some p (suc n) j h t = ⊎-elim
+    (λ (e : suc j ≡ suc n). let q : j ≡ n = omega arith in let t′ : p n ≡ true = subst (λ (z : ℕ). p z ≡ true) q t in rw t′ (omega arith))
+    (λ (l : suc j < suc n). go (p n) (count-some p n j (omega arith) t))
+    (eq-or-lt-of-le h)
+  where
+    go : (b : Bool) → 0 < countIf p n → 0 < cond b (countIf p n + 1) (countIf p n)
+    go true h = omega arith
+    go false h = h
+
+pub count-witness : (p : ℕ → Bool) (n : ℕ) → 0 < countIf p n → (j : ℕ) × (j < n) × (p j ≡ true)
+unfolding foldIf
+count-witness p zero h = absurd (omega arith)
+count-witness p (suc n) h = go (p n) refl h (count-witness p n)
+  where
+    go : (b : Bool) → p n ≡ b → 0 < cond b (countIf p n + 1) (countIf p n) → (0 < countIf p n → (j : ℕ) × (j < n) × (p j ≡ true)) → (j : ℕ) × (j < suc n) × (p j ≡ true)
+    go true e h w = (n, omega arith, e)
+    go false e h w = let r : (j : ℕ) × (j < n) × (p j ≡ true) = w h in (r .0, more (r .0) n (r .1), r .2)
+      where
+        more : (i n : ℕ) → i < n → i < suc n
+        more i n h = omega arith

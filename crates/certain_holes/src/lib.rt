@@ -1,0 +1,1 @@
+// Books with holes: definitions and laws alone, no code.

@@ -1,0 +1,1 @@
+// Doubles within whole bounds: definitions and laws alone, no code.

@@ -1,0 +1,1 @@
+// What is certain of every grouping: definitions and laws alone, no code.
