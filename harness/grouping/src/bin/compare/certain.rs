@@ -40,7 +40,7 @@ impl Certain {
             println!("certain {:28} {count:9} groupings", format!("a cell {kind}"));
         }
         println!("certain {:28} {:9} groupings", "a cell unlike its mirror", self.asymmetric);
-        println!("certain: {} groupings with {} scores from -1 to 1, {} otherwise; 3 answered {} times", self.groupings, self.scores, self.wrong, self.failed);
+        println!("certain: {} groupings with {} scores, {} not as is certain; 3 answered {} times", self.groupings, self.scores, self.wrong, self.failed);
     }
 }
 
