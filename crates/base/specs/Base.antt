@@ -18,8 +18,8 @@ use Rattle.base.specs.declared.Based.the-variants.{Done, Stopped}
 abbrev pub baseOf : ℕ → Candidate → State
 baseOf m c = record { groups = groupsOf (numbers (c .labels)) m m; scores = c .scores }
 
--- the answer: how many groups, and the place of the next draw, which is `next`; or what ends the run, which no want of a candidate does in a run
--- (certain_runs/specs/Certain.antt)
+-- the answer: how many groups, and the place of the next draw, which is `next`; or what ends the run. A round without a candidate
+-- would end it, but no call has one (certain_runs/specs/Certain.antt)
 abbrev pub basedOf : ℕ → ℕ → Drawn Best → Based
 basedOf m next (drawn nothing rest) = Stopped ClusteringFailed
 basedOf m next (drawn (found c) rest) = Done (length (baseOf m c .groups)) next

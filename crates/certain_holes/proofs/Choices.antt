@@ -25,20 +25,15 @@ somewhere P Q d (suc n) = ⊎-elim
     more : (i n : ℕ) → i < n → i < suc n
     more i n h = omega arith
 
+abbrev IsNumber : Float → Type 0
+IsNumber nan = ⊥
+IsNumber (inf s) = Unit
+IsNumber (fin s m e) = Unit
+
 pub nan-or-not : (y : Float) → (y ≡ nan) ⊎ (y ≡ nan → ⊥)
 nan-or-not nan = inl refl
-nan-or-not (inf s) = inr (λ e. subst apart e tt)
-  where
-    apart : Float → Type 0
-    apart nan = ⊥
-    apart (inf s) = Unit
-    apart (fin s m e) = Unit
-nan-or-not (fin s m e) = inr (λ e. subst apart e tt)
-  where
-    apart : Float → Type 0
-    apart nan = ⊥
-    apart (inf s) = Unit
-    apart (fin s m e) = Unit
+nan-or-not (inf s) = inr (λ e. subst IsNumber e tt)
+nan-or-not (fin s m e) = inr (λ e. subst IsNumber e tt)
 
 pub number-or-not : (a b : ℕ) → (a ≡ b) ⊎ (a ≡ b → ⊥)
 number-or-not a b = go (eqb a b) refl
@@ -51,17 +46,9 @@ pub hole-or-whole : (a : ℕ → Float) (m : ℕ) → Hole a m ⊎ Whole a m
 hole-or-whole a m = somewhere (λ c. a c ≡ nan) (λ c. a c ≡ nan → ⊥) (λ c. nan-or-not (a c)) m
 
 -- ---- counts
-pub count-some : (p : ℕ → Bool) (n j : ℕ) → j < n → p j ≡ true → 0 < countIf p n
-unfolding foldIf
-count-some p zero j h t = absurd (omega arith)
-count-some p (suc n) j h t = ⊎-elim
-    (λ (e : suc j ≡ suc n). let q : j ≡ n = omega arith in let t′ : p n ≡ true = subst (λ (z : ℕ). p z ≡ true) q t in rw t′ (omega arith))
-    (λ (l : suc j < suc n). go (p n) (count-some p n j (omega arith) t))
-    (eq-or-lt-of-le h)
-  where
-    go : (b : Bool) → 0 < countIf p n → 0 < cond b (countIf p n + 1) (countIf p n)
-    go true h = omega arith
-    go false h = h
+pub count-pos : (c : ℕ) → eqb c 0 ≡ false → 0 < c
+count-pos zero e = absurd (eqb-false 0 0 e refl)
+count-pos (suc c) e = omega arith
 
 pub count-witness : (p : ℕ → Bool) (n : ℕ) → 0 < countIf p n → (j : ℕ) × (j < n) × (p j ≡ true)
 unfolding foldIf

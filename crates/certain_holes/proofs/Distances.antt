@@ -73,17 +73,17 @@ halved : (x : Float) → UpTo 2 x → UpTo 1 (div binary64 x two64)
 halved x h = sized-upto 1 (div binary64 x two64) (sized-over false x two64 1 2 (omega arith) (omega arith) (refl, refl) (upto-sized 2 x h))
 
 -- ---- the distance: a NaN of a NaN, and a number of anything else
-pub distance-nan : (c : Float) → c ≡ nan → distanceOf c ≡ nan
+distance-nan : (c : Float) → c ≡ nan → distanceOf c ≡ nan
 unfolding distanceOf
 distance-nan c e = rw (e, clamped-nan, sub-nan one64, nan-div two64) nan-root
 
-pub distance-number : (c : Float) → (c ≡ nan → ⊥) → UpTo 1 (distanceOf c)
+distance-number : (c : Float) → (c ≡ nan → ⊥) → UpTo 1 (distanceOf c)
 unfolding distanceOf
 distance-number c n =
     upto-root 1 1 (div binary64 (sub binary64 one64 (clamped c)) two64) (omega arith) (omega arith)
     (halved (sub binary64 one64 (clamped c)) (from-one (clamped c) (clamped-number c n)))
 
-pub distance-range : (c : Float) → OrNan (UpTo 1) (distanceOf c)
+distance-range : (c : Float) → OrNan (UpTo 1) (distanceOf c)
 distance-range c = ⊎-elim (λ e. inl (distance-nan c e)) (λ n. inr (distance-number c n)) (nan-or-not c)
 
 pub book-distances : (book : List Float) (n : ℕ) (rows : List ℕ) → Distances (distAt book n rows)

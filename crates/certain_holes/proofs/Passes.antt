@@ -5,13 +5,13 @@ use mathlib.Core.Logic.{_⊎_, inl, inr, ⊎-elim}
 use mathlib.Core.Bool.{Bool, true, false, cond, true≢false}
 use native.Mathlib.Nat.{eq-or-lt-of-le}
 use native.Mathlib.Omega.{arith}
-use borrow.Author.Tests.{eqb-true, eqb-false, eq-eqb, ne-eqb}
+use borrow.Author.Tests.{eqb-true, eq-eqb, ne-eqb}
 use lib.Dec.{eqb}
 use lib.Ieee.{Float, nan, inf, fin, binary64, div, sub, lt}
 use Rattle.lists.specs.Lists.{cells, numbers}
 use Rattle.lists.specs.Sums.{one64, counted, squareFrom, sumIf, inGroup, groupSize}
 use Rattle.lists.proofs.Listed.{getD-listed}
-use Rattle.lists.proofs.Sums.{count-le, all-true, all-fails}
+use Rattle.lists.proofs.Sums.{count-le, count-some, all-true, all-fails}
 use Rattle.lists.proofs.First.{first-holds}
 use Rattle.distance_columns.specs.Pair.{squared}
 use Rattle.lloyd_nearest.specs.declared.Best.{Best}
@@ -23,7 +23,7 @@ use Rattle.certain_ranges.proofs.Operations.{upto-bounded, bounded-more, bounde
 use Rattle.certain_ranges.proofs.Totals.{adds-or-nan, adds-upto, sum-in, sum-if-in, sum-if-nan}
 use Rattle.certain_holes.specs.Holes.{Distances, Hole, Whole}
 use Rattle.certain_holes.proofs.Pairs.{squared-nan, squared-nan′}
-use Rattle.certain_holes.proofs.Choices.{somewhere, hole-or-whole, count-some}
+use Rattle.certain_holes.proofs.Choices.{somewhere, hole-or-whole, count-pos}
 
 -- ---- the nearest of centroids
 abbrev none : Best
@@ -98,13 +98,9 @@ module _ (x : ℕ → ℕ → Float) (m : ℕ) (D : Distances x) (M : m ≤ 256)
   moved-held : (label : ℕ → ℕ) (dist : ℕ → Float) (l : ℕ) → Held (moved x label dist m l)
   moved-held label dist l = go (eqb (groupSize label m l) 0) refl
     where
-      some : (n : ℕ) → eqb n 0 ≡ false → 0 < n
-      some zero e = absurd (eqb-false 0 0 e refl)
-      some (suc n) e = omega arith
-
       go : (b : Bool) → eqb (groupSize label m l) 0 ≡ b → Held (cond b (x (takesItem label dist m l)) (mean x label m l))
       go true e = item-held (takesItem label dist m l)
-      go false e = mean-held label l (some (groupSize label m l) e)
+      go false e = mean-held label l (count-pos (groupSize label m l) e)
 
   -- a member with a hole: so has the centroid
   moved-hole : (label : ℕ → ℕ) (dist : ℕ → Float) (l i : ℕ) → i < m → label i ≡ l → Hole (x i) m → Hole (moved x label dist m l) m

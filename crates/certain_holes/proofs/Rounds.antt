@@ -10,6 +10,7 @@ use lib.Ieee.{Float, nan, binary64, div}
 use Rattle.lists.specs.Lists.{cells}
 use Rattle.lists.specs.Sums.{zero64, counted}
 use Rattle.lists.proofs.Listed.{getD-listed}
+use Rattle.lists.proofs.Sums.{count-some}
 use Rattle.lists.proofs.Tests.{both}
 use Rattle.distance_columns.specs.Pair.{pairAt}
 use Rattle.silhouette_scores.specs.Scores.{member, groupSum, groupCount, silhouette}
@@ -18,12 +19,12 @@ use Rattle.certain_ranges.specs.Ranges.{Bounded, UpTo, OrNan}
 use Rattle.certain_ranges.proofs.Operations.{nan-div}
 use Rattle.certain_ranges.proofs.Totals.{sum-if-nan}
 use Rattle.certain_holes.specs.Holes.{Distances, Hole, Whole}
-use Rattle.certain_holes.proofs.Choices.{hole-or-whole, count-some, count-witness}
+use Rattle.certain_holes.proofs.Choices.{hole-or-whole, count-witness}
 use Rattle.certain_holes.proofs.Pairs.{pair-nan, pair-nan′, pair-range, pair-whole}
 use Rattle.certain_holes.proofs.Scores.{silhouette-range, silhouette-number, silhouette-zero, silhouette-nan}
 
 module _ (x : ℕ → ℕ → Float) (m : ℕ) (D : Distances x) (M : m ≤ 256) (label : ℕ → ℕ) where
-  pub score-at : (i : ℕ) → i < m → silhouette (pairAt x m i) label m i ≡ cells (scoresOf x m label) i
+  score-at : (i : ℕ) → i < m → silhouette (pairAt x m i) label m i ≡ cells (scoresOf x m label) i
   unfolding scoresOf
   score-at i h = sym (getD-listed (λ i. silhouette (pairAt x m i) label m i) m i nan h)
 
@@ -32,7 +33,7 @@ module _ (x : ℕ → ℕ → Float) (m : ℕ) (D : Distances x) (M : m ≤ 256)
       subst (OrNan (Bounded 1)) (score-at i h)
       (silhouette-range 16 (pairAt x m i) label m i (omega arith) (omega arith) (omega arith) (λ j g. pair-range x m i j D M))
 
-  pub score-number : (i : ℕ) → i < m → ((j : ℕ) → j < m → label j ≡ label i → (j ≡ i → ⊥) → Whole (x i) m × Whole (x j) m) → Bounded 1 (cells (scoresOf x m label) i)
+  score-number : (i : ℕ) → i < m → ((j : ℕ) → j < m → label j ≡ label i → (j ≡ i → ⊥) → Whole (x i) m × Whole (x j) m) → Bounded 1 (cells (scoresOf x m label) i)
   score-number i h W =
       subst (Bounded 1) (score-at i h)
       (silhouette-number 16 (pairAt x m i) label m i (omega arith) (omega arith) (omega arith) (λ j g. pair-range x m i j D M) own)

@@ -10,13 +10,13 @@ use lib.Dec.{T, eqb}
 use lib.Ieee.{Float, nan, inf, binary64, sub, div, lt, eq, fits}
 use lib.Ieee.Fits.{div-fits}
 use Rattle.lists.specs.Sums.{zero64, counted, lesser}
-use Rattle.lists.proofs.Sums.{count-le}
+use Rattle.lists.proofs.Sums.{count-le, count-some}
 use Rattle.silhouette_scores.specs.Scores.{member, groupSum, groupCount, least, scoreOf, scoreFrom, silhouette}
 use Rattle.certain_ranges.specs.Ranges.{Bounded, UpTo, OrNan}
 use Rattle.certain_ranges.proofs.Operations.{below-inf, upto-over, upto-bounded, bounded-finite, nan-div, nan-lt, sub-nan}
 use Rattle.certain_ranges.proofs.Totals.{adds-or-nan, adds-upto, sum-if-in, sum-if-nan}
 use Rattle.certain_ranges.proofs.Ratios.{ratio-bounded}
-use Rattle.certain_holes.proofs.Choices.{count-some}
+use Rattle.certain_holes.proofs.Choices.{count-pos}
 
 -- +infinity, or a double from +0 to k
 abbrev OrInf : ℕ → Float → Type 0
@@ -30,7 +30,7 @@ eq-nan : (y : Float) → eq nan y ≡ false
 unfolding eq
 eq-nan y = refl
 
-pub score-inf : (a : Float) → scoreOf a (inf false) ≡ zero64
+score-inf : (a : Float) → scoreOf a (inf false) ≡ zero64
 unfolding scoreOf
 score-inf a = refl
 
@@ -46,7 +46,7 @@ score-ratio k a b h g A B = rw (bounded-finite k b (upto-bounded k b g)) (go (eq
     go true e = zero-in
     go false e = ratio-bounded k a b h g A B e
 
-pub score-number : (k : ℕ) (a b : Float) → UpTo k a → T (fits binary64 a) → OrInf k b → Bounded 1 (scoreOf a b)
+score-number : (k : ℕ) (a b : Float) → UpTo k a → T (fits binary64 a) → OrInf k b → Bounded 1 (scoreOf a b)
 score-number k a b h A (inl e) = rw (e, score-inf a) zero-in
 score-number k a b h A (inr g) = score-ratio k a b h (g .0) A (g .1)
 
@@ -88,13 +88,6 @@ module _ (k : ℕ) (d : ℕ → Float) (label : ℕ → ℕ) (n i : ℕ) (K : k 
       (sum-if-in (λ z y. OrNan (UpTo z) y) adds-or-nan (member label i l) d k n (total l) (λ j g t. R j g))
 
   -- b
-  count-pos : (c : ℕ) → eqb c 0 ≡ false → 0 < c
-  count-pos c e = let h : c ≡ 0 → ⊥ = eqb-false c 0 e in pos-of c h
-    where
-      pos-of : (c : ℕ) → (c ≡ 0 → ⊥) → 0 < c
-      pos-of zero h = absurd (h refl)
-      pos-of (suc c) h = omega arith
-
   least-range : ((j : ℕ) → j < n → OrNan (UpTo k) (d j)) → (own l : ℕ) → OrInf k (least (groupSum d label n i) (groupCount label n i) own l)
   unfolding least
   least-range R own zero = inl refl

@@ -29,7 +29,7 @@ unfolding constant
 not-constant f n j h e =
     rw (sym (all-fails (λ i. sameBits (f i) (f 0)) n j h (rw e (unfold isNan in refl)))) (and-false (finite (f 0)))
 
-pub mean-nan : (f : ℕ → Float) (n j : ℕ) → j < n → f j ≡ nan → exactMean f n ≡ nan
+mean-nan : (f : ℕ → Float) (n j : ℕ) → j < n → f j ≡ nan → exactMean f n ≡ nan
 unfolding exactMean
 mean-nan f n j h e = rw (not-constant f n j h e, sum-nan f n j h e) (nan-div (counted n))
 
@@ -48,7 +48,7 @@ stat-nan f n j h e =
 
 -- ---- values within -1..1
 module _ (f : ℕ → Float) (n : ℕ) (some : 0 < n) (few : 4 * n < 2 ^ 53) (range : (j : ℕ) → j < n → Bounded 1 (f j)) where
-  pub mean-bounded : Bounded 1 (exactMean f n)
+  mean-bounded : Bounded 1 (exactMean f n)
   unfolding exactMean
   mean-bounded = go (constant f n)
     where
@@ -76,7 +76,7 @@ not-le a b e = ⊎-elim
     (λ l. l)
     (le-or-lt a b)
 
--- above T / 2 ^ 92, where T is 2 ^ 52 at least, is above 1 / 2 ^ 40
+-- above T / 2 ^ 92, where T is 2 ^ 52 at least, is at least 1 / 2 ^ 40
 reciprocal : (T d n : ℕ) → 2 ^ 52 ≤ T → T * d < n * 2 ^ 92 → d ≤ n * 2 ^ 40
 reciprocal T d n t h =
     le-of-mul-le-mul-right
@@ -97,7 +97,7 @@ over-deviation (fin s m e) n d h g =
     (quotient s false m n e d (2 ^ 40) (first-pos n (up d) (first-pos (n * up d) (2 ^ 92) (lt-of-le-of-lt zero-le g))) (lit< tt)
     (over-tiny (m * up e) (down e) (down d) (n * up d) h (reciprocal 0x119799812dea11 (down d) (n * up d) (lit≤ tt) g))))
 
-pub ratio-above : (m s : Float) → Bounded 1 m → UpTo 2 s → lt (inf true) (ratio m s) ≡ true
+ratio-above : (m s : Float) → Bounded 1 m → UpTo 2 s → lt (inf true) (ratio m s) ≡ true
 ratio-above m nan h g = absurd g
 ratio-above m (inf t) h g = absurd g
 ratio-above m (fin true n d) h g = absurd (true≢false (g .0))

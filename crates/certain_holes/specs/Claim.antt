@@ -23,13 +23,13 @@ HasHole book n rows i = Hole (through book n rows i) (length rows)
 abbrev pub NoHole : List Float → ℕ → List ℕ → ℕ → Type 0
 NoHole book n rows i = Whole (through book n rows i) (length rows)
 
--- another group than that of name i, none of whose names has a hole
+-- another group than that of name i, with a label below the number of names, none of whose names has a hole. b is sought among such labels alone
 abbrev pub GroupWithoutHole : List Float → ℕ → List ℕ → (ℕ → ℕ) → ℕ → Type 0
 GroupWithoutHole book n rows label i =
     (k : ℕ) × (k < length rows) × (label k < length rows) × (label k ≡ label i → ⊥) × ((c : ℕ) → c < length rows → label c ≡ label k → NoHole book n rows c)
 
 -- The scores of the names that the rows pick, at most 256 of them, under any labels: each is a NaN or from -1 to 1. It is from -1 to 1 where no other name of
--- the group has a hole. Where one has, it is 0 if the name itself has a hole or if no other group is without one, and else a NaN. So a score is a NaN only
+-- the group has a hole. Where one has, it is 0 if the name itself has a hole or if there is no `GroupWithoutHole`, and else a NaN. So a score is a NaN only
 -- beside a name with holes.
 pub record Afresh (book : List Float) (n : ℕ) (rows : List ℕ) (label : ℕ → ℕ) : Type 0 where
   pub or-nan : (i : ℕ) → i < length rows

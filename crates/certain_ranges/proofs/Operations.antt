@@ -107,7 +107,7 @@ upto-add j k (fin false m e) (fin false n d) K h g =
     (sum-bound A B j k C (shared-l (m * up e) j (down e) (down d) (h .1)) (shared-r (n * up d) k (down e) (down d) (g .1))))
 
 -- ---- a difference, a product, a square
-pub bounded-neg : (k : ℕ) (x : Float) → Bounded k x → Bounded k (neg x)
+bounded-neg : (k : ℕ) (x : Float) → Bounded k x → Bounded k (neg x)
 unfolding neg
 bounded-neg k nan h = h
 bounded-neg k (inf s) h = h
@@ -258,7 +258,7 @@ pub nan-add : (x : Float) → add binary64 nan x ≡ nan
 unfolding add
 nan-add x = refl
 
-pub nan-sub : (x : Float) → sub binary64 nan x ≡ nan
+nan-sub : (x : Float) → sub binary64 nan x ≡ nan
 unfolding sub
 nan-sub x = nan-add (neg x)
 

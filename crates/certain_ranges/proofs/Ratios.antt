@@ -33,9 +33,6 @@ zero-eq : (e : ℤ) → eq (fin false zero e) zero64 ≡ true
 unfolding eq
 zero-eq e = rw (eq-eqb (0 * up e * 1) (0 * 1 * down e) (mul-one (0 * up e) ∙ zero-mul (up e) ∙ sym (zero-mul (down e))))
 
-true-true : (true && true) ≡ false → ⊥
-true-true h = true≢false h
-
 -- both are zero where the larger one is
 larger-pos : (m n : ℕ) (e d : ℤ) → (eq (fin false m e) zero64 && eq (fin false n d) zero64) ≡ false → n * up d * down e ≤ m * up e * down d → 0 < m
 larger-pos (suc m) n e d h l = zero-lt-suc m

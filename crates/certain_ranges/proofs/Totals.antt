@@ -67,12 +67,12 @@ sum-if-nan p f (suc n) j h t e = ⊎-elim here (λ (l : suc j < suc n). go (p n)
 abbrev every : ℕ → Bool
 every i = true
 
-pub sum-all : (f : ℕ → Float) (n : ℕ) → sumTo f n ≡ sumIf every f n
+sum-all : (f : ℕ → Float) (n : ℕ) → sumTo f n ≡ sumIf every f n
 unfolding sumTo foldIf
 sum-all f zero = refl
 sum-all f (suc n) = rw (sum-all f n)
 
-pub count-all : (n : ℕ) → countIf every n ≡ n
+count-all : (n : ℕ) → countIf every n ≡ n
 unfolding foldIf
 count-all zero = refl
 count-all (suc n) = rw (count-all n) (add-one n)

@@ -69,7 +69,7 @@ average-nan scores gs g h e =
     (map-at (qualityOf scores) gs g [] nan h ∙ e)
 
 -- the average of a partition with a NaN among its scores
-pub mean-nan : (m : ℕ) (s : State) → Partition m (s .groups) → (i : ℕ) → i < m → cells (s .scores) i ≡ nan → meanQuality s ≡ nan
+mean-nan : (m : ℕ) (s : State) → Partition m (s .groups) → (i : ℕ) → i < m → cells (s .scores) i ≡ nan → meanQuality s ≡ nan
 mean-nan m s p i h e =
     let one : times i (joined (s .groups)) ≡ 1 = p .once i h in
     let g = group-of (s .groups) i (times-has (joined (s .groups)) i (omega arith)) in

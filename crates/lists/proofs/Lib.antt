@@ -1,4 +1,4 @@
--- Laws of the definitions of specs/, for every crate above.
+-- Laws of the definitions of specs/, for every crate above; Counted.antt: counts as doubles.
 pub mod Tests
 pub mod Listed
 pub mod First

@@ -59,6 +59,20 @@ unfolding foldIf
 count-le p zero = omega arith
 count-le p (suc n) = cond-le (p n) (countIf p n) n (count-le p n)
 
+-- a place below n that counts
+some-step : (b : Bool) (c : ℕ) → 1 ≤ c → 1 ≤ cond b (c + 1) c
+some-step true c h = omega arith
+some-step false c h = h
+
+pub count-some : (p : ℕ → Bool) (n j : ℕ) → j < n → p j ≡ true → 1 ≤ countIf p n
+unfolding foldIf
+count-some p zero j l t = absurd (omega arith)
+count-some p (suc n) j l t =
+    ⊎-elim
+    (λ q. rw (rw q at t) (omega arith))
+    (λ q. some-step (p n) (countIf p n) (count-some p n j q t))
+    (eq-or-lt-of-le {n = j} {m = n} (omega arith))
+
 -- tests and steps that agree below n
 pub fold-same : {A : Type 0} (p q : ℕ → Bool) (g h : A → ℕ → A) (a : A) (n : ℕ) → ((k : ℕ) → k < n → p k ≡ q k) → ((x : A) (k : ℕ) → k < n → g x k ≡ h x k)
     → foldIf p g a n ≡ foldIf q h a n

@@ -17,7 +17,7 @@ use lib.Ieee.Bits.{ofBits-toBits}
 use lib.IntN.{negsuc, pos, ℤ}
 use lib.Pow.{pow-add, pow-lt, pow-pos}
 use Rattle.lists.specs.Sums.{countIf, counted, foldIf, squareFrom, zero64, groupSize, inGroup, one64}
-use Rattle.lists.proofs.Sums.{sum-same}
+use Rattle.lists.proofs.Sums.{count-some, sum-same}
 use Rattle.lists.proofs.Listed.{listed-same}
 use Rattle.lloyd_mean.specs.Groups.{distances, mean}
 use Rattle.distance_columns.specs.Pair.{squared}
@@ -144,19 +144,6 @@ none-folded : {A : Type 0} (p : ℕ → Bool) (g : A → ℕ → A) (a : A) (n :
 unfolding foldIf
 none-folded p g a zero h = refl
 none-folded p g a (suc n) h = none-step (p n) (countIf p n) (foldIf p g a n) (g (foldIf p g a n) n) a h (none-folded p g a n)
-
-some-step : (b : Bool) (c : ℕ) → 1 ≤ c → 1 ≤ cond b (c + 1) c
-some-step true c h = omega arith
-some-step false c h = h
-
-count-some : (p : ℕ → Bool) (n j : ℕ) → j < n → p j ≡ true → 1 ≤ countIf p n
-unfolding foldIf
-count-some p zero j l t = absurd (omega arith)
-count-some p (suc n) j l t =
-    ⊎-elim
-    (λ q. rw (rw q at t) (omega arith))
-    (λ q. some-step (p n) (countIf p n) (count-some p n j q t))
-    (eq-or-lt-of-le {n = j} {m = n} (omega arith))
 
 one-step : {A : Type 0} (b : Bool) (c : ℕ) (x y r : A) → 1 ≤ c → cond b (c + 1) c ≡ 1 → (c ≡ 1 → x ≡ r) → cond b y x ≡ r
 one-step true c x y r l h k = absurd (omega arith)

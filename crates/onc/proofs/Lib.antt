@@ -1,4 +1,4 @@
--- Laws of a call; Demands.antt has the three demands.
+-- Laws of a call; Demands.antt has the three demands, Certain.antt what is certain of every book.
 pub mod Calls
 pub mod Demands
 pub mod Groupings

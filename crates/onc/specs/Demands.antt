@@ -196,7 +196,7 @@ pub record DrawsRead (book : List Float) (n repeat : ℕ) (draws : List ℕ) (r 
   pub there : totalOf repeat (roundsOf r) ≤ length draws
   pub ends : EndsBy book n repeat draws r
 
--- what a call answers by how its run ends: the number and place of each refusal, of which 3 is none, and of a grouping its groups and the draws read
+-- what a call answers by how its run ends: the number and place of each refusal, which is never 3, and of a grouping its groups and the draws read
 abbrev pub Tells : Run → Answer → Type 0
 Tells (done s ms read rest) a = a ≡ record { refused = none; groups = length (s .groups); read = read }
 Tells (ended Rounds ms) a = a ≡ refusing (record { number = 9; place = 0 })

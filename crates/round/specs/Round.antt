@@ -34,7 +34,7 @@ pub data Opening : Type 0 where
   started : State → List ℕ → Opening
   unstarted : Stop → List ℕ → Opening
 
--- the base of the best candidate; a round that found none would end the run, and there is no such round (certain_runs/specs/Certain.antt)
+-- the base of the best candidate; a round that found none would end the run, but no call has such a round (certain_runs/specs/Certain.antt)
 abbrev pub ofBest : ℕ → Drawn Best → Opening
 ofBest m (drawn nothing rest) = unstarted ClusteringFailed (m ∷ [])
 ofBest m (drawn (found c) rest) = started (baseOf m c) rest

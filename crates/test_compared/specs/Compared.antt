@@ -49,7 +49,7 @@ leftLists m floats xs = leftDoubles floats (frontOf m) && leftNumbers xs (number
 
 -- whether a run or a leaf that answers this number of the table got past the rows that keep every list, and so leaves the fronts zero; 0: not refused
 unfoldable pub wipes : ℕ → Bool
-wipes number = eqb number 0 || (eqb number 3 || (eqb number 7 || (eqb number 8 || eqb number 9)))
+wipes number = eqb number 0 || (eqb number 7 || (eqb number 8 || eqb number 9))
 
 -- how many names the zero fronts are measured by: n, of at most 256, or 0 where every list is kept
 unfoldable pub namesWiped : ℕ → ℕ → ℕ

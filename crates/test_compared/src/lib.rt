@@ -101,7 +101,7 @@ pub fn names_wiped(number: usize, n: usize) -> usize
         return 0;
     }
     match number {
-        0 | 3 | 7 | 8 | 9 => n,
+        0 | 7 | 8 | 9 => n,
         _ => 0,
     }
 }

@@ -1,4 +1,4 @@
-use Rattle.test_compared.proofs.Wiped.{all-wiped, kept-below-7, kept-from-10, none-above, none-kept, wipes-0-3, wipes-7-9}
+use Rattle.test_compared.proofs.Wiped.{all-wiped, kept-below-7, kept-from-10, none-above, none-kept, wipes-0, wipes-7-9}
 use Rattle.test_compared.proofs.names_wiped.Statement.{statement}
 use Rattle.test_compared.proofs.names_wiped.Tie as tie
 
@@ -12,7 +12,7 @@ returns-3 : tie.Need-returns-3
 returns-3 c = none-kept _ _ (c .before .before .before .if1 .left) (kept-from-10 _ (c .if3 .left))
 
 returns-4 : tie.Need-returns-4
-returns-4 c = all-wiped _ _ (c .before .if1 .left) (wipes-0-3 _ (c .match .keys1))
+returns-4 c = all-wiped _ _ (c .before .if1 .left) (wipes-0 _ (c .match .keys1))
 
 returns-5 : tie.Need-returns-5
 returns-5 c = all-wiped _ _ (c .before .before .before .if1 .left) (wipes-7-9 _ (c .before .if2 .left) (c .if3 .taken))

@@ -1,7 +1,7 @@
 //! What is certain of every book, looked at in what the library left: crates/onc/specs/Certain.antt in plain words.
 use grouping_harness::call::{bits, Call};
 
-/// How many groupings there were, of which books and with how many scores; how many were not as is certain, and how often 3 was answered.
+/// How many groupings there were, of which books and with how many scores; how many were against the claim, and how often 3 was answered.
 #[derive(Default)]
 pub struct Certain {
     groupings: usize,
@@ -28,7 +28,7 @@ impl Certain {
         self.scores += outputs[2].len();
         let wrong = faults(n, book, groups, outputs);
         if !wrong.is_empty() && self.wrong < 5 {
-            println!("not as is certain: {n} names: {}", wrong.join("; "));
+            println!("against the claim: {n} names: {}", wrong.join("; "));
         }
         self.wrong += usize::from(!wrong.is_empty());
     }
@@ -40,11 +40,11 @@ impl Certain {
             println!("certain {:28} {count:9} groupings", format!("a cell {kind}"));
         }
         println!("certain {:28} {:9} groupings", "a cell unlike its mirror", self.asymmetric);
-        println!("certain: {} groupings with {} scores, {} not as is certain; 3 answered {} times", self.groupings, self.scores, self.wrong, self.failed);
+        println!("certain: {} groupings with {} scores, {} against the claim; 3 answered {} times", self.groupings, self.scores, self.wrong, self.failed);
     }
 }
 
-/// What of a grouping of n names is not as is certain, in words.
+/// What of a grouping of n names is against the claim, in words.
 fn faults(n: usize, book: &[f64], groups: usize, [order, sizes, scores, ordered]: [&[u64]; 4]) -> Vec<&'static str> {
     let mut names: Vec<u64> = order.to_vec();
     names.sort_unstable();

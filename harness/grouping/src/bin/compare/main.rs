@@ -1,6 +1,6 @@
 //! Compares the proved library with the unchanged Rust, and times both. Usage: see run.sh.
 //!   compare runs [SEED] [BOOKS]         BOOKS made-up books (20000), each with several lists of draws; the status is 0 if none differs and
-//!                                       each grouping is as is certain of every book
+//!                                       each grouping is as `CertainClaim` says
 //!   compare statistics [SEED] [CALLS]   the averages, the intake check and the counts of draws, CALLS made-up lists of each (3000)
 //!   compare stack [KIB]                 a run of 256 names and 64 repeats, and one of 32 rounds, in a thread with a stack of KIB (1024)
 //!   compare time [RUNS]                 whole runs and their phases on the same books and draws, medians of RUNS runs (5)
