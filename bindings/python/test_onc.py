@@ -61,6 +61,7 @@ class Case(unittest.TestCase):
         self.assertEqual([len(members) for members in found.groups], found.sizes)
         self.assertTrue(all(found.sizes))
         self.assertEqual((list(found.scores), list(found.labels)), (list(names), list(names)))
+        self.assertTrue(all(-1 <= score <= 1 for score in found.scores.values()))
         for number, members in enumerate(found.groups):
             self.assertTrue(all(found.labels[name] == number for name in members))
         expected = [[bits(book[row[a]][row[b]]) for b in found.order] for a in found.order]

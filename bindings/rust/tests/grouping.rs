@@ -40,6 +40,7 @@ fn assert_whole(found: &Grouping, book: &[f64], n: usize) {
     assert!(names.into_iter().eq(0..n), "a name is missing or twice");
     assert_eq!((found.names(), found.scores().len(), found.groups().len()), (n, n, found.len()));
     assert!(found.groups().all(|group| !group.is_empty()));
+    assert!(found.scores().iter().all(|score| (-1.0..=1.0).contains(score)), "a score is a NaN or outside -1..1");
     assert!(found.groups().map(<[usize]>::len).eq(found.sizes().iter().copied()));
     assert!(found.groups().flatten().eq(found.order()));
     let labels = found.labels();

@@ -6,9 +6,11 @@ use mathlib.Core.List.{List}
 use native.Mathlib.Omega.{arith}
 use lib.ListN.{length}
 use lib.Ieee.{Float}
-use Rattle.lists.specs.Lists.{cells}
-use Rattle.partition.specs.Partition.{State, joined, groupAt, has, times}
-use Rattle.partition.proofs.Cuts.{cut-length}
+use Rattle.lists.specs.Lists.{cells, listed, numbers}
+use Rattle.distance.specs.Distance.{distAt}
+use Rattle.silhouette_areas.proofs.Laws.{scores-length}
+use Rattle.partition.specs.Partition.{State, joined, groupAt, has, labelOf, times}
+use Rattle.partition.proofs.Cuts.{cut-length, groups-few}
 use Rattle.partition.proofs.Members.{times-has}
 use Rattle.certain_ranges.proofs.Ratios.{bounded-one}
 use Rattle.round.specs.Round.{Run, done, ended}
@@ -21,7 +23,7 @@ use Rattle.onc.specs.Demands.{Within, outputs, groupsIn, Cause, no-repea
 use Rattle.onc.specs.Certain.{CertainGrouping, CertainClaim}
 use Rattle.onc.proofs.Shapes.{shape-cause, shape-within}
 use Rattle.onc.proofs.Calls.{by-call, within-ran, within-certain}
-use Rattle.onc.proofs.Groupings.{second}
+use Rattle.onc.proofs.Groupings.{size-at, second}
 
 -- no refusal before the run has the number 3, and no run ends in it
 cause-not-3 : {book : List Float} {rows cols repeat : ℕ} {l : Lists} {k : ℕ} → Cause book rows cols repeat l k → k ≡ 3 → ⊥
@@ -47,19 +49,29 @@ never-3 book rows cols repeat draws l =
 abbrev InOne : List (List ℕ) → ℕ → ℕ → Type 0
 InOne gs count i = (g : ℕ) × (g < count) × (has (groupAt gs g) i ≡ true) × ((h : ℕ) → has (groupAt gs h) i ≡ true → h ≡ g)
 
+group-count : (book : List Float) (n : ℕ) (s : State) (o : Outcome) → GroupingOf book n s o → length (s .groups) ≡ o .answer .groups
+group-count book n s o g = ap length (sym (g .groups)) ∙ cut-length (o .answer .groups) (o .lists .sizes) (o .lists .order)
+
 one-group : (book : List Float) (n : ℕ) (s : State) (o : Outcome) → GroupingOf book n s o → (i : ℕ) → i < n → InOne (groupsIn (outputs o)) (o .answer .groups) i
 one-group book n s o g i h =
     let one : times i (joined (s .groups)) ≡ 1 = g .partition .once i h in
     let k = group-of (s .groups) i (times-has (joined (s .groups)) i (omega arith)) in
-    let count : length (s .groups) ≡ o .answer .groups = ap length (sym (g .groups)) ∙ cut-length (o .answer .groups) (o .lists .sizes) (o .lists .order) in
     subst (λ (gs : List (List ℕ)). InOne gs (o .answer .groups) i) (sym (g .groups))
-    (k .0, subst (λ (c : ℕ). k .0 < c) count (k .1), k .2, λ f t. sym (g .labels f i t) ∙ g .labels (k .0) i (k .2))
+    (k .0, subst (λ (c : ℕ). k .0 < c) (group-count book n s o g) (k .1), k .2, λ f t. sym (g .labels f i t) ∙ g .labels (k .0) i (k .2))
+
+-- the size of each group
+group-size : (book : List Float) (n : ℕ) (s : State) (o : Outcome) → GroupingOf book n s o → (k : ℕ) → k < o .answer .groups
+    → numbers (o .lists .sizes) k ≡ length (groupAt (groupsIn (outputs o)) k)
+group-size book n s o g k h =
+    let inside : k < n = omega (arith, group-count book n s o g, groups-few (g .partition)) in
+    ap (λ (xs : List ℕ). numbers xs k) (g .sizes) ∙ size-at n (s .groups) k inside ∙ ap (λ (gs : List (List ℕ)). length (groupAt gs k)) (sym (g .groups))
 
 -- a grouping
 of-grouping : (book : List Float) (n : ℕ) (s : State) (o : Outcome) → GroupingOf book n s o → InRange n (o .lists .scores) → CertainGrouping book n o
 of-grouping book n s o g r =
     record {
       no-empty = g .numbered;
+      sized = group-size book n s o g;
       no-more = g .no-more;
       concatenated = ap joined (g .groups) ∙ sym (g .order);
       once = λ i h. ap (times i) (g .order) ∙ g .partition .once i h;
@@ -67,6 +79,7 @@ of-grouping book n s o g r =
       one-group = one-group book n s o g;
       square = g .ordered-long;
       matrix = g .matrix;
+      scored = ap length (g .scores) ∙ scores-length (distAt book n (listed (λ i. i) n)) n (labelOf (s .groups));
       scores = λ i h. bounded-one (cells (o .lists .scores) i) (r i h);
     }
 

@@ -37,7 +37,7 @@ use Rattle.certain_runs.specs.Certain.{CertainRun}
 use Rattle.onc.proofs.Calls.{within-ran, within-certain}
 
 -- the sizes: those of the groups, and 0 after the last
-size-at : (n : ℕ) (gs : List (List ℕ)) (g : ℕ) → g < n → numbers (sizesOf n gs) g ≡ length (groupAt gs g)
+pub size-at : (n : ℕ) (gs : List (List ℕ)) (g : ℕ) → g < n → numbers (sizesOf n gs) g ≡ length (groupAt gs g)
 size-at n gs g h = getD-listed (λ k. length (groupAt gs k)) n g 0 h
 
 no-size : (n : ℕ) (gs : List (List ℕ)) (g : ℕ) → length gs ≤ g → numbers (sizesOf n gs) g ≡ 0
