@@ -7,7 +7,7 @@ ghost use Rattle.draws.specs.Draws.{one, share};
 ghost use Rattle.draws.specs.Stops.{stopNumber, stopPlace, drawOf};
 
 // What can end a run: a 33rd round, too few draws (with the draws read so far), a draw out of range (with its place). By the
-// definition a round without a candidate would too, but every round has one: 3 is never returned (crates/onc/specs/Certain.antt).
+// definition a round without a candidate would too, but no call has one: 3 is never returned (crates/onc/specs/Certain.antt).
 pub enum Stop {
     Rounds,
     Short(usize),
