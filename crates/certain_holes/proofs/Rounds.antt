@@ -44,22 +44,10 @@ module _ (x : ℕ → ℕ → Float) (m : ℕ) (D : Distances x) (M : m ≤ 256)
           let w = W j g (eqb-true (label j) (label i) (b .0)) (eqb-false j i (not-true (eqb j i) (b .1))) in
           pair-whole x m i j D M (w .0) (w .1)
 
-  -- 0, where the items of every other group have a NaN distance to i
-  pub score-zero : (i : ℕ) → i < m → ((j : ℕ) → j < m → (label j ≡ label i → ⊥) → pairAt x m i j ≡ nan) → cells (scoresOf x m label) i ≡ zero64
-  score-zero i h W =
-      sym (score-at i h) ∙ silhouette-zero 16 (pairAt x m i) label m i (omega arith) (omega arith) (omega arith) other
-    where
-      other : (g : ℕ) → g < m → (g ≡ label i → ⊥) → 0 < groupCount label m i g
-          → div binary64 (groupSum (pairAt x m i) label m i g) (counted (groupCount label m i g)) ≡ nan
-      other g l n c =
-          let w = count-witness (member label i g) m c in
-          let t : label (w .0) ≡ g = eqb-true (label (w .0)) g (both (eqb (label (w .0)) g) (not (eqb (w .0) i)) (w .2) .0) in
-          rw (sum-if-nan (member label i g) (pairAt x m i) m (w .0) (w .1) (w .2) (W (w .0) (w .1) (λ e. n (sym t ∙ e)))) (nan-div (counted (groupCount label m i g)))
-
-  -- 0, where every other group has an item with a hole
-  pub holes-zero : (i : ℕ) → i < m
-      → ((k : ℕ) → k < m → label k < m → (label k ≡ label i → ⊥) → (c : ℕ) × (c < m) × (label c ≡ label k) × Hole (x c) m) → cells (scoresOf x m label) i ≡ zero64
-  holes-zero i h W =
+  -- 0, where every other group has an item whose distance to i is a NaN
+  nans-zero : (i : ℕ) → i < m
+      → ((k : ℕ) → k < m → label k < m → (label k ≡ label i → ⊥) → (c : ℕ) × (c < m) × (label c ≡ label k) × (pairAt x m i c ≡ nan)) → cells (scoresOf x m label) i ≡ zero64
+  nans-zero i h W =
       sym (score-at i h) ∙ silhouette-zero 16 (pairAt x m i) label m i (omega arith) (omega arith) (omega arith) other
     where
       other : (g : ℕ) → g < m → (g ≡ label i → ⊥) → 0 < groupCount label m i g
@@ -69,8 +57,16 @@ module _ (x : ℕ → ℕ → Float) (m : ℕ) (D : Distances x) (M : m ≤ 256)
           let t : label (w .0) ≡ g = eqb-true (label (w .0)) g (both (eqb (label (w .0)) g) (not (eqb (w .0) i)) (w .2) .0) in
           let s = W (w .0) (w .1) (subst (λ (z : ℕ). z < m) (sym t) l) (λ e. n (sym t ∙ e)) in
           let u : label (s .0) ≡ g = s .2 ∙ t in
-          rw (sum-if-nan (member label i g) (pairAt x m i) m (s .0) (s .1) (rw (eq-eqb (label (s .0)) g u, ne-eqb (s .0) i (λ q. n (sym u ∙ ap label q)))) (pair-nan′ x m i (s .0) (s .3)))
+          rw (sum-if-nan (member label i g) (pairAt x m i) m (s .0) (s .1) (rw (eq-eqb (label (s .0)) g u, ne-eqb (s .0) i (λ q. n (sym u ∙ ap label q)))) (s .3))
           (nan-div (counted (groupCount label m i g)))
+
+  -- so too where all its items have, and where one of its items has a hole
+  pub score-zero : (i : ℕ) → i < m → ((j : ℕ) → j < m → (label j ≡ label i → ⊥) → pairAt x m i j ≡ nan) → cells (scoresOf x m label) i ≡ zero64
+  score-zero i h W = nans-zero i h (λ k l b o. (k, l, refl, W k l o))
+
+  pub holes-zero : (i : ℕ) → i < m
+      → ((k : ℕ) → k < m → label k < m → (label k ≡ label i → ⊥) → (c : ℕ) × (c < m) × (label c ≡ label k) × Hole (x c) m) → cells (scoresOf x m label) i ≡ zero64
+  holes-zero i h W = nans-zero i h (λ k l b o. let s = W k l b o in (s .0, s .1, s .2, pair-nan′ x m i (s .0) (s .3)))
 
   -- so an item with a hole scores 0, and an item is scored within 1 where no other item of its group has one
   pub hole-zero : (i : ℕ) → i < m → Hole (x i) m → cells (scoresOf x m label) i ≡ zero64
