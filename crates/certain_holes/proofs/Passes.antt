@@ -11,13 +11,14 @@ use lib.Ieee.{Float, nan, inf, fin, binary64, div, sub, lt}
 use Rattle.lists.specs.Lists.{cells, numbers}
 use Rattle.lists.specs.Sums.{one64, counted, squareFrom, sumIf, inGroup, groupSize}
 use Rattle.lists.proofs.Listed.{getD-listed}
-use Rattle.lists.proofs.Sums.{count-le, count-some, all-true, all-fails}
+use Rattle.lists.proofs.Sums.{count-le, count-some, all-true}
 use Rattle.lists.proofs.First.{first-holds}
 use Rattle.distance_columns.specs.Pair.{squared}
 use Rattle.lloyd_nearest.specs.declared.Best.{Best}
 use Rattle.lloyd_nearest.specs.Nearest.{nearer, nearestTo}
 use Rattle.lloyd_mean.specs.Groups.{mean}
 use Rattle.lloyd_pass.specs.Passes.{takesItem, moved, nearest, labelsOf, distsOf, centroidsAt, labelsAt, convergesAt, passes, lloydLabels}
+use Rattle.lloyd_pass.proofs.Below.{some-passes}
 use Rattle.certain_ranges.specs.Ranges.{Bounded, UpTo, OrNan}
 use Rattle.certain_ranges.proofs.Operations.{upto-bounded, bounded-more, bounded-mul, upto-over, bounded-sub, upto-square, nan-mul, nan-lt, number-of, below-inf}
 use Rattle.certain_ranges.proofs.Totals.{adds-or-nan, adds-upto, sum-in, sum-if-in, sum-if-nan}
@@ -174,15 +175,6 @@ module _ (x : ℕ → ℕ → Float) (m : ℕ) (D : Distances x) (M : m ≤ 256)
         (moved-hole (numbers (labelsOf x m k (centroidsAt x m k centre t))) (cells (distsOf x m k (centroidsAt x m k centre t))) 0 i within (first-label t) H)
         (moved-held (numbers (labelsOf x m k (centroidsAt x m k centre t))) (cells (distsOf x m k (centroidsAt x m k centre t))))
 
-    -- the first pass changes a label
-    first-changes : convergesAt x m k centre 0 ≡ false
-    first-changes =
-        sym (all-fails (λ j. eqb (numbers (labelsAt x m k centre 0) j) (numbers (labelsAt x m k centre 1) j)) m i within
-        (ne-eqb (numbers (labelsAt x m k centre 0) i) (numbers (labelsAt x m k centre 1) i) (λ e. let a = before in let b = first-label 0 in omega arith)))
-      where
-        before : numbers (labelsAt x m k centre 0) i ≡ k
-        before = unfold labelsAt in getD-listed (λ j. k) m i 0 within
-
     pub lloyd-split : Split (numbers (lloydLabels x m k centre))
     lloyd-split = go (passes x m k centre) refl
       where
@@ -190,7 +182,7 @@ module _ (x : ℕ → ℕ → Float) (m : ℕ) (D : Distances x) (M : m ≤ 256)
         holds t e h = subst (λ (z : ℕ). convergesAt x m k centre z ≡ true) e (first-holds (convergesAt x m k centre) 300 (subst (λ (z : ℕ). z < 300) (sym e) h))
 
         go : (t : ℕ) → passes x m k centre ≡ t → Split (numbers (labelsAt x m k centre t))
-        go zero e = absurd (true≢false (sym (holds 0 e (omega arith)) ∙ first-changes))
+        go zero e = let p : 0 < m = omega arith in absurd (omega (arith, some-passes x m k centre p some, e))
         go (suc zero) e =
             split-same (numbers (labelsAt x m k centre 1)) (numbers (labelsAt x m k centre 2))
             (λ j h. eqb-true (numbers (labelsAt x m k centre 1) j) (numbers (labelsAt x m k centre 2) j)

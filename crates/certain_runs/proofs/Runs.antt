@@ -11,7 +11,6 @@ use lib.Ieee.{Float}
 use Rattle.lists.specs.Lists.{numbers}
 use Rattle.draws.specs.Draws.{Drawn, drawn, refused}
 use Rattle.draws.specs.declared.Stop.the-variants.{Short}
-use Rattle.draws.specs.Stops.{stopNumber}
 use Rattle.draws.proofs.Taken.{Ends}
 use Rattle.distance.specs.Distance.{distAt}
 use Rattle.partition.specs.Partition.{Partition, State}
@@ -29,7 +28,7 @@ use Rattle.certain_runs.proofs.Choice.{nan-not-kept, better-range}
 -- ---- how a round starts
 abbrev Opens : ℕ → Opening → Type 0
 Opens m (started base rest) = InRange m (base .scores)
-Opens m (unstarted q ms) = stopNumber q ≡ 3 → ⊥
+Opens m (unstarted q ms) = CertainRun m (ended q ms)
 
 opens : (book : List Float) (n repeats : ℕ) (rows : List ℕ) (read : ℕ) (ds : List ℕ) → 2 ≤ length rows → length rows ≤ 256 → 1 ≤ repeats
     → Opens (length rows) (openingOf book n repeats rows read ds)
