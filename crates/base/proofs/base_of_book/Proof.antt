@@ -9,7 +9,6 @@ use Rattle.distance.specs.Distance.{distAt}
 use Rattle.lists.specs.Lists.{numbers}
 use Rattle.partition.specs.Partition.{groupsOf, joined}
 use Rattle.partition.specs.Orders.{sizesOf}
-use Rattle.draws.proofs.Table.{at}
 use Rattle.base.proofs.Laws.{base-done, base-failed, base-stopped, found-below}
 use Rattle.base.proofs.base_of_book.Statement.{statement}
 use Rattle.base.proofs.base_of_book.Tie as tie

@@ -1,30 +1,93 @@
--- The rule is one test over all 255 entries of the code's table, which antt computes.
-use Prim.Native.Nat.{ℕ}
-use mathlib.Core.List.{List}
 use native.Mathlib.Omega.{arith}
-use borrow.Table.Row.{get}
-use Rattle.draws.specs.Counts.{countOf, seedingsOf}
-use Rattle.draws.proofs.Table.{table-rule}
+use Rattle.draws.proofs.Bounds.{bounds-end, bounds-few}
 use Rattle.draws.proofs.draws_for.Statement.{statement}
 use Rattle.draws.proofs.draws_for.Tie as tie
-use Rattle.draws.proofs.draws_for.Reads as reads
-use Rattle.draws.proofs.draws_for.Lts as lts
 
-sub-at : tie.Need-sub-at
-sub-at c = omega arith
+groups-end-requires : tie.Need-groups-end-requires
+groups-end-requires c κs = omega arith
 
-mul-result : tie.Need-mul-result
-mul-result c = omega arith
+sub-most : tie.Need-sub-most
+sub-most c = omega arith
 
-array-read-result : tie.Need-array-read-result
-array-read-result c = omega arith
+later-centres-requires : tie.Need-later-centres-requires
+later-centres-requires c κs = (omega arith, omega arith)
+
+mul-two : tie.Need-mul-two
+mul-two c =
+    let s = c .before in
+    omega (arith, bounds-few (s .before .args .m) (s .groups-end .result) (s .before .pre .1) (s .groups-end .ensures))
+
+later-centres-requires-2 : tie.Need-later-centres-requires-2
+later-centres-requires-2 c κs = (omega arith, omega arith)
+
+later-centres-requires-3 : tie.Need-later-centres-requires-3
+later-centres-requires-3 c κs = (omega arith, omega arith)
+
+add-more : tie.Need-add-more
+add-more c =
+    let s = c .before .before .before in
+    omega (arith, bounds-few (s .before .args .m) (s .groups-end .result) (s .before .pre .1) (s .groups-end .ensures))
+
+later-centres-requires-4 : tie.Need-later-centres-requires-4
+later-centres-requires-4 c κs = (omega arith, omega arith)
+
+add-more-2 : tie.Need-add-more-2
+add-more-2 c =
+    let s = c .before .before .before .before in
+    omega (arith, bounds-few (s .before .args .m) (s .groups-end .result) (s .before .pre .1) (s .groups-end .ensures))
+
+later-centres-requires-5 : tie.Need-later-centres-requires-5
+later-centres-requires-5 c κs = (omega arith, omega arith)
+
+add-more-3 : tie.Need-add-more-3
+add-more-3 c =
+    let s = c .before .before .before .before .before in
+    omega (arith, bounds-few (s .before .args .m) (s .groups-end .result) (s .before .pre .1) (s .groups-end .ensures))
+
+later-centres-requires-6 : tie.Need-later-centres-requires-6
+later-centres-requires-6 c κs = (omega arith, omega arith)
+
+add-more-4 : tie.Need-add-more-4
+add-more-4 c =
+    let s = c .before .before .before .before .before .before in
+    omega (arith, bounds-few (s .before .args .m) (s .groups-end .result) (s .before .pre .1) (s .groups-end .ensures))
+
+sub-result : tie.Need-sub-result
+sub-result c = omega arith
+
+add-result : tie.Need-add-result
+add-result c =
+    let s = c .before .before .before .before .before .before in
+    omega (arith, bounds-few (s .before .args .m) (s .groups-end .result) (s .before .pre .1) (s .groups-end .ensures))
+
+add-result-2 : tie.Need-add-result-2
+add-result-2 c =
+    let s = c .before .before .before .before .before .before in
+    omega (arith, bounds-few (s .before .args .m) (s .groups-end .result) (s .before .pre .1) (s .groups-end .ensures))
 
 returns : tie.Need-returns
-unfolding countOf seedingsOf
 returns c =
-    -- the table as the code has it
-    let counts : List ℕ = get 3 (lts.T4 .locals) (lts.m3 reads.Pre reads.Post (c .args) (c .blocks)) in
-    table-rule counts (c .args .m) tt (omega arith) (omega arith)
+    let s = c .before .before .before .before .before .before in
+    omega (arith, bounds-end (s .before .args .m) (s .groups-end .result) (s .groups-end .ensures))
 
 pub draws-for-spec : {M : Type 1} → statement M
-draws-for-spec = tie.close (tie.spec sub-at mul-result array-read-result returns)
+draws-for-spec =
+    tie.close
+    (tie.spec
+    groups-end-requires
+    sub-most
+    later-centres-requires
+    mul-two
+    later-centres-requires-2
+    later-centres-requires-3
+    add-more
+    later-centres-requires-4
+    add-more-2
+    later-centres-requires-5
+    add-more-3
+    later-centres-requires-6
+    add-more-4
+    sub-result
+    add-result
+    add-result-2
+    returns)

@@ -3,7 +3,6 @@ use mathlib.Core.Path.{_≡_, refl}
 use native.Mathlib.Omega.{arith}
 use lib.ListN.{length}
 use Rattle.lists.specs.Lists.{cells, firstTo}
-use Rattle.draws.proofs.Table.{at}
 use Rattle.lists.proofs.First.{first-more}
 use Rattle.plusplus_pick.proofs.Picks.{over, reached-found, reached-none}
 use Rattle.plusplus_pick.proofs.reached.Statement.{statement}

@@ -5,7 +5,6 @@ use lib.ListN.{length, take}
 use lib.Seq.{length-take-le}
 use borrow.Author.Needs.{needs}
 use Rattle.draws.specs.Counts.{countOf}
-use Rattle.draws.proofs.Table.{at}
 use Rattle.round.proofs.Openings.{need-fits, open-short}
 use Rattle.round.proofs.start_round.Statement.{statement}
 use Rattle.round.proofs.start_round.Tie as tie

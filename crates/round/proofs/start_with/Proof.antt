@@ -4,7 +4,6 @@ use native.Mathlib.Omega.{arith}
 use lib.ListN.{length, take}
 use lib.Seq.{length-take-le}
 use borrow.Author.Needs.{needs}
-use Rattle.draws.proofs.Table.{at}
 use Rattle.round.proofs.Openings.{area-beyond, area-kept, open-area, open-enough, open-part, open-readable, open-room, open-word, opened-law, opened-sized, started-law, stopped-law}
 use Rattle.lists.proofs.Parts.{part-length}
 use Rattle.round.proofs.start_with.Statement.{statement}

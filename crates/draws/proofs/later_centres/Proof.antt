@@ -1,0 +1,29 @@
+use mathlib.Core.Path.{sym}
+use native.Mathlib.Omega.{arith}
+use Rattle.draws.proofs.Bounds.{later-none, later-half, terms-few}
+use Rattle.draws.proofs.later_centres.Statement.{statement}
+use Rattle.draws.proofs.later_centres.Tie as tie
+
+returns : tie.Need-returns
+returns c = sym (later-none (c .before .args .least) (c .before .args .most) (c .before .pre .0) (c .if1 .taken))
+
+add-terms : tie.Need-add-terms
+add-terms c = omega arith
+
+sub-terms : tie.Need-sub-terms
+sub-terms c = omega arith
+
+add-result : tie.Need-add-result
+add-result c = omega arith
+
+sub-result : tie.Need-sub-result
+sub-result c = omega arith
+
+mul-result : tie.Need-mul-result
+mul-result c = omega (arith, terms-few (c .before .args .least) (c .before .args .most) (c .before .pre .0) (c .before .pre .1) (c .if1 .left))
+
+returns-2 : tie.Need-returns-2
+returns-2 c = later-half (c .before .args .least) (c .before .args .most) (c .before .pre .0)
+
+pub later-centres-spec : {M : Type 1} → statement M
+later-centres-spec = tie.close (tie.spec returns add-terms sub-terms add-result sub-result mul-result returns-2)
