@@ -1,15 +1,17 @@
 -- The draws of a round by the five bounds of the trials: an arithmetic series from each of them on.
 use mathlib.Core.Path.{_≡_, refl, sym, _∙_, ap}
 use mathlib.Core.Bool.{Bool, true, false, cond}
-use Prim.Native.Nat.{ℕ, zero, suc, _+_, _-_, _*_, _/_, _≤_, _<_, max}
-use native.Mathlib.Nat.{mul-le-mul, mul-suc, suc-mul, zero-mul}
+use Prim.Native.Nat.{ℕ, zero, suc, _+_, _-_, _*_, _/_, _≤_, _<_, max, zero-le}
+use native.Mathlib.Nat.{le-refl, mul-le-mul, mul-suc, suc-mul, zero-mul}
 use native.Mathlib.Omega.{arith}
 use borrow.Author.Tests.{lt-ltb, le-ltb, ltb-true, ltb-false}
 use lib.Dec.{ltb}
+use mir.Syntax.{w64}
+use mir.Val.{Fits}
 use Rattle.lists.proofs.Tests.{impossible}
 use Rattle.draws.specs.Counts.{trialsOf, seedingOf, seedingsOf, tries, countOf}
 use Rattle.draws.specs.Bounds.{laterOf, byBounds, BoundsClaim}
-use Rattle.draws.proofs.Counting.{seedings-more, count-max}
+use Rattle.draws.proofs.Counting.{seedings-more}
 
 -- twice a series is its terms times the first and the last together
 series : (b most : ℕ) → 2 ≤ b → laterOf b most + laterOf b most ≡ (most + 1 - b) * (b + most - 2)
@@ -30,7 +32,7 @@ series b (suc k) h = by-test (ltb (suc k) b) refl (series b k h)
         let ends : b + suc k - 2 ≡ suc (b + k - 2) = omega (arith, l) in
         rw (terms, ends) (omega (arith, before, suc-mul (k + 1 - b) (suc (b + k - 2)), mul-suc (k + 1 - b) (b + k - 2)))
 
--- as the code works it out: nothing below the first term, and else half of that product, which is small
+-- as the code works it out: nothing below the first term, and else half of that product
 pub later-none : (b most : ℕ) → 2 ≤ b → most < b → laterOf b most ≡ 0
 later-none b most h l =
     let e : most + 1 - b ≡ 0 = omega arith in
@@ -39,15 +41,25 @@ later-none b most h l =
 pub later-half : (b most : ℕ) → 2 ≤ b → (most + 1 - b) * (b + most - 2) / 2 ≡ laterOf b most
 later-half b most h = omega (arith, series b most h)
 
-pub terms-few : (b most : ℕ) → 2 ≤ b → most ≤ 255 → b ≤ most → (most + 1 - b) * (b + most - 2) ≤ 129032
-terms-few b most h s l =
-    let x : most + 1 - b ≤ 254 = omega arith in
-    let y : b + most - 2 ≤ 508 = omega arith in
-    omega (arith, mul-le-mul x y)
+-- the code's numbers are small
+pub product-fits : (x y : ℕ) → x ≤ 255 → y ≤ 510 → Fits w64 (x * y)
+product-fits x y h l = omega (arith, mul-le-mul h l)
 
 -- what a series gains by a seeding with k + 1 centres
 abbrev gain : ℕ → ℕ → ℕ
 gain b k = cond (ltb (suc k) b) 0 k
+
+gain-most : (t : Bool) (k : ℕ) → cond t 0 k ≤ k
+gain-most true k = zero-le
+gain-most false k = le-refl k
+
+within : (b most : ℕ) → laterOf b most + laterOf b most ≤ most * most
+unfolding laterOf
+within b zero = zero-le
+within b (suc k) = omega (arith, within b k, gain-most (ltb (suc k) b) k, suc-mul k (suc k), mul-suc k k)
+
+pub later-few : (b most : ℕ) → most ≤ 255 → laterOf b most ≤ 32512
+later-few b most h = omega (arith, within b most, mul-le-mul h h)
 
 -- a cascade of tests, each of which implies the next, counts those that fail
 cascade : (k : ℕ) (a b c d e : Bool) → (a ≡ true → b ≡ true) → (b ≡ true → c ≡ true) → (c ≡ true → d ≡ true) → (d ≡ true → e ≡ true)
@@ -107,9 +119,6 @@ pub count-bounds : BoundsClaim
 unfolding countOf
 count-bounds m = let e : suc (tries m) ≡ max 2 (m - 1) = omega arith in by-bounds (tries m) ∙ ap byBounds e
 
--- the same for what `groups_end` answers, which is one more than the most centres; and no sum of `draws_for` is above 214,428
+-- the same for what `groups_end` answers, which is one more than the most centres
 pub bounds-end : (m end : ℕ) → end ≡ tries m + 2 → byBounds (end - 1) ≡ countOf m
 bounds-end m end h = let e : end - 1 ≡ max 2 (m - 1) = omega arith in rw e (sym (count-bounds m))
-
-pub bounds-few : (m end : ℕ) → m ≤ 256 → end ≡ tries m + 2 → byBounds (end - 1) ≤ 214428
-bounds-few m end few h = omega (arith, bounds-end m end h, count-max m few)

@@ -90,10 +90,11 @@ pub fn draws_of(k: usize) -> usize
 }
 
 // The centres after the first, of one seeding each with `least` to `most` centres: from least - 1 to most - 1, an arithmetic series.
-// Inner form: `least` from 2 on, `most` up to 255.
+// Inner form: `least` from 2 on, `most` up to 255. It is so small that no sum of `draws_for` overflows.
 fn later_centres(least: usize, most: usize) -> usize
     requires { ⌜ (2 ≤ least) × (most ≤ 255) ⌝ }
     ensures { λ r. ⌜ r ≡ laterOf least most ⌝ }
+    ensures bounded { λ r. ⌜ r ≤ 32512 ⌝ }
 {
     if most < least {
         return 0;

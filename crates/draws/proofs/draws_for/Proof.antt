@@ -1,5 +1,5 @@
 use native.Mathlib.Omega.{arith}
-use Rattle.draws.proofs.Bounds.{bounds-end, bounds-few}
+use Rattle.draws.proofs.Bounds.{bounds-end}
 use Rattle.draws.proofs.draws_for.Statement.{statement}
 use Rattle.draws.proofs.draws_for.Tie as tie
 
@@ -13,9 +13,7 @@ later-centres-requires : tie.Need-later-centres-requires
 later-centres-requires c κs = (omega arith, omega arith)
 
 mul-two : tie.Need-mul-two
-mul-two c =
-    let s = c .before in
-    omega (arith, bounds-few (s .before .args .m) (s .groups-end .result) (s .before .pre .1) (s .groups-end .ensures))
+mul-two c = omega arith
 
 later-centres-requires-2 : tie.Need-later-centres-requires-2
 later-centres-requires-2 c κs = (omega arith, omega arith)
@@ -24,46 +22,34 @@ later-centres-requires-3 : tie.Need-later-centres-requires-3
 later-centres-requires-3 c κs = (omega arith, omega arith)
 
 add-more : tie.Need-add-more
-add-more c =
-    let s = c .before .before .before in
-    omega (arith, bounds-few (s .before .args .m) (s .groups-end .result) (s .before .pre .1) (s .groups-end .ensures))
+add-more c = omega arith
 
 later-centres-requires-4 : tie.Need-later-centres-requires-4
 later-centres-requires-4 c κs = (omega arith, omega arith)
 
 add-more-2 : tie.Need-add-more-2
-add-more-2 c =
-    let s = c .before .before .before .before in
-    omega (arith, bounds-few (s .before .args .m) (s .groups-end .result) (s .before .pre .1) (s .groups-end .ensures))
+add-more-2 c = omega arith
 
 later-centres-requires-5 : tie.Need-later-centres-requires-5
 later-centres-requires-5 c κs = (omega arith, omega arith)
 
 add-more-3 : tie.Need-add-more-3
-add-more-3 c =
-    let s = c .before .before .before .before .before in
-    omega (arith, bounds-few (s .before .args .m) (s .groups-end .result) (s .before .pre .1) (s .groups-end .ensures))
+add-more-3 c = omega arith
 
 later-centres-requires-6 : tie.Need-later-centres-requires-6
 later-centres-requires-6 c κs = (omega arith, omega arith)
 
 add-more-4 : tie.Need-add-more-4
-add-more-4 c =
-    let s = c .before .before .before .before .before .before in
-    omega (arith, bounds-few (s .before .args .m) (s .groups-end .result) (s .before .pre .1) (s .groups-end .ensures))
+add-more-4 c = omega arith
 
 sub-result : tie.Need-sub-result
 sub-result c = omega arith
 
 add-result : tie.Need-add-result
-add-result c =
-    let s = c .before .before .before .before .before .before in
-    omega (arith, bounds-few (s .before .args .m) (s .groups-end .result) (s .before .pre .1) (s .groups-end .ensures))
+add-result c = omega arith
 
 add-result-2 : tie.Need-add-result-2
-add-result-2 c =
-    let s = c .before .before .before .before .before .before in
-    omega (arith, bounds-few (s .before .args .m) (s .groups-end .result) (s .before .pre .1) (s .groups-end .ensures))
+add-result-2 c = omega arith
 
 returns : tie.Need-returns
 returns c =
