@@ -1,14 +1,13 @@
 -- The draws of a round by the five bounds of the trials: an arithmetic series from each of them on.
 use mathlib.Core.Path.{_≡_, refl, sym, _∙_, ap}
 use mathlib.Core.Bool.{Bool, true, false, cond}
-use Prim.Native.Nat.{ℕ, zero, suc, _+_, _-_, _*_, _/_, _≤_, _<_, max, zero-le}
-use native.Mathlib.Nat.{le-refl, mul-le-mul, mul-suc, suc-mul, zero-mul}
+use Prim.Native.Nat.{ℕ, zero, suc, _+_, _-_, _*_, _/_, _≤_, _<_, max}
+use native.Mathlib.Nat.{mul-le-mul, mul-suc, suc-mul, zero-mul}
 use native.Mathlib.Omega.{arith}
 use borrow.Author.Tests.{lt-ltb, le-ltb, ltb-true, ltb-false}
 use lib.Dec.{ltb}
 use mir.Syntax.{w64}
 use mir.Val.{Fits}
-use Rattle.lists.proofs.Tests.{impossible}
 use Rattle.draws.specs.Counts.{trialsOf, seedingOf, seedingsOf, tries, countOf}
 use Rattle.draws.specs.Bounds.{laterOf, byBounds, BoundsClaim}
 use Rattle.draws.proofs.Counting.{seedings-more}
@@ -45,41 +44,25 @@ later-half b most h = omega (arith, series b most h)
 pub product-fits : (x y : ℕ) → x ≤ 255 → y ≤ 510 → Fits w64 (x * y)
 product-fits x y h l = omega (arith, mul-le-mul h l)
 
+pub later-few : (b most : ℕ) → 2 ≤ b → b ≤ most → most ≤ 255 → laterOf b most ≤ 65025
+later-few b most h l m =
+    let terms : most + 1 - b ≤ 255 = omega arith in
+    let ends : b + most - 2 ≤ 510 = omega arith in
+    omega (arith, series b most h, mul-le-mul terms ends)
+
 -- what a series gains by a seeding with k + 1 centres
 abbrev gain : ℕ → ℕ → ℕ
 gain b k = cond (ltb (suc k) b) 0 k
 
-gain-most : (t : Bool) (k : ℕ) → cond t 0 k ≤ k
-gain-most true k = zero-le
-gain-most false k = le-refl k
-
-within : (b most : ℕ) → laterOf b most + laterOf b most ≤ most * most
-unfolding laterOf
-within b zero = zero-le
-within b (suc k) = omega (arith, within b k, gain-most (ltb (suc k) b) k, suc-mul k (suc k), mul-suc k k)
-
-pub later-few : (b most : ℕ) → most ≤ 255 → laterOf b most ≤ 32512
-later-few b most h = omega (arith, within b most, mul-le-mul h h)
-
--- a cascade of tests, each of which implies the next, counts those that fail
-cascade : (k : ℕ) (a b c d e : Bool) → (a ≡ true → b ≡ true) → (b ≡ true → c ≡ true) → (c ≡ true → d ≡ true) → (d ≡ true → e ≡ true)
+-- nested tests, each of which implies the next, count those that fail
+nested : (k : ℕ) (a b c d e : Bool) → (a ≡ true → b ≡ true) → (b ≡ true → c ≡ true) → (c ≡ true → d ≡ true) → (d ≡ true → e ≡ true)
     → k * cond a 2 (cond b 3 (cond c 4 (cond d 5 (cond e 6 7)))) ≡ 2 * k + (cond a 0 k + cond b 0 k + cond c 0 k + cond d 0 k + cond e 0 k)
-cascade k true true true true true f g h i = omega arith
-cascade k true true true true false f g h i = impossible (i refl)
-cascade k true true true false e f g h i = impossible (h refl)
-cascade k true true false d e f g h i = impossible (g refl)
-cascade k true false c d e f g h i = impossible (f refl)
-cascade k false true true true true f g h i = omega arith
-cascade k false true true true false f g h i = impossible (i refl)
-cascade k false true true false e f g h i = impossible (h refl)
-cascade k false true false d e f g h i = impossible (g refl)
-cascade k false false true true true f g h i = omega arith
-cascade k false false true true false f g h i = impossible (i refl)
-cascade k false false true false e f g h i = impossible (h refl)
-cascade k false false false true true f g h i = omega arith
-cascade k false false false true false f g h i = impossible (i refl)
-cascade k false false false false true f g h i = omega arith
-cascade k false false false false false f g h i = omega arith
+nested k true b c d e f g h i = rw (f refl, g (f refl), h (g (f refl)), i (h (g (f refl)))) (omega arith)
+nested k false true c d e f g h i = rw (g refl, h (g refl), i (h (g refl))) (omega arith)
+nested k false false true d e f g h i = rw (h refl, i (h refl)) (omega arith)
+nested k false false false true e f g h i = rw (i refl) (omega arith)
+nested k false false false false true f g h i = omega arith
+nested k false false false false false f g h i = omega arith
 
 -- what is below a bound is below the next
 wider : (k b c : ℕ) → b ≤ c → ltb k b ≡ true → ltb k c ≡ true
@@ -88,29 +71,24 @@ wider k b c h e = lt-ltb k c (omega (arith, ltb-true k b e))
 -- the trials of a seeding with k + 1 centres: two for each centre after the first, and one more from each bound on
 turns : (k : ℕ) → k * trialsOf (suc k) ≡ 2 * k + (gain 3 k + gain 8 k + gain 21 k + gain 55 k + gain 149 k)
 turns k =
-    cascade k (ltb (suc k) 3) (ltb (suc k) 8) (ltb (suc k) 21) (ltb (suc k) 55) (ltb (suc k) 149)
+    nested k (ltb (suc k) 3) (ltb (suc k) 8) (ltb (suc k) 21) (ltb (suc k) 55) (ltb (suc k) 149)
     (wider (suc k) 3 8 (omega arith))
     (wider (suc k) 8 21 (omega arith))
     (wider (suc k) 21 55 (omega arith))
     (wider (suc k) 55 149 (omega arith))
-
-seeding-turns : (k : ℕ) → seedingOf (suc k) ≡ 1 + k * trialsOf (suc k)
-seeding-turns k = let e : suc k - 1 ≡ k = omega arith in rw e refl
-
-none-yet : seedingsOf 2 0 ≡ byBounds 1
-unfolding seedingsOf laterOf
-none-yet = refl
 
 -- one more seeding
 bounds-more : (k : ℕ) → byBounds (suc (suc k)) ≡ byBounds (suc k) + seedingOf (suc (suc k))
 unfolding laterOf
 bounds-more k =
     let two : gain 2 (suc k) ≡ suc k = rw (le-ltb (suc (suc k)) 2 (omega arith)) refl in
-    omega (arith, two, turns (suc k), seeding-turns (suc k))
+    let e : suc (suc k) - 1 ≡ suc k = omega arith in
+    rw e (omega (arith, two, turns (suc k)))
 
 -- so the seedings with 2 to j + 1 centres, by induction
 by-bounds : (j : ℕ) → seedingsOf 2 j ≡ byBounds (suc j)
-by-bounds zero = none-yet
+unfolding seedingsOf laterOf
+by-bounds zero = refl
 by-bounds (suc j) =
     let e : 2 + j ≡ suc (suc j) = omega arith in
     omega (arith, seedings-more j 2, by-bounds j, ap seedingOf e, bounds-more j)

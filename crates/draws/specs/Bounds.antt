@@ -6,7 +6,7 @@ use mathlib.Core.Bool.{cond}
 use lib.Dec.{ltb}
 use Rattle.draws.specs.Counts.{countOf}
 
--- the centres after the first, of one seeding each with `least` to `most` centres; a seeding with k + 1 centres has k of them
+-- how many centres come after the first, in all, in one seeding each with `least` to `most` centres; in a seeding with k + 1 centres k do
 unfoldable pub laterOf : ℕ → ℕ → ℕ
 laterOf least zero = 0
 laterOf least (suc k) = laterOf least k + cond (ltb (suc k) least) 0 k

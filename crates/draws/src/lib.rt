@@ -89,12 +89,11 @@ pub fn draws_of(k: usize) -> usize
     1 + (k - 1) * count
 }
 
-// The centres after the first, of one seeding each with `least` to `most` centres: from least - 1 to most - 1, an arithmetic series.
-// Inner form: `least` from 2 on, `most` up to 255. It is so small that no sum of `draws_for` overflows.
+// How many centres come after the first, in all, in one seeding each with `least` to `most` centres: least - 1 up to most - 1, an
+// arithmetic series. Inner form: `least` from 2 on, `most` up to 255; at most 255 terms of at most 255.
 fn later_centres(least: usize, most: usize) -> usize
     requires { ⌜ (2 ≤ least) × (most ≤ 255) ⌝ }
-    ensures { λ r. ⌜ r ≡ laterOf least most ⌝ }
-    ensures bounded { λ r. ⌜ r ≤ 32512 ⌝ }
+    ensures { λ r. ⌜ (r ≡ laterOf least most) × (r ≤ 65025) ⌝ }
 {
     if most < least {
         return 0;

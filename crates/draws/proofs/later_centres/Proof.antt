@@ -25,7 +25,7 @@ mul-result c = product-fits _ _ (omega arith) (omega arith)
 returns-2 : tie.Need-returns-2
 returns-2 c =
     let half = later-half (c .before .args .least) (c .before .args .most) (c .before .pre .0) in
-    (half, omega (arith, half, later-few (c .before .args .least) (c .before .args .most) (c .before .pre .1)))
+    (half, omega (arith, half, later-few (c .before .args .least) (c .before .args .most) (c .before .pre .0) (omega arith) (c .before .pre .1)))
 
 pub later-centres-spec : {M : Type 1} → statement M
 later-centres-spec = tie.close (tie.spec returns add-terms sub-terms add-result sub-result mul-result returns-2)
