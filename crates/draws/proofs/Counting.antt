@@ -27,7 +27,7 @@ trials-few k = between (ltb k 3) (ltb k 8) (ltb k 21) (ltb k 55) (ltb k 149) .1
 pub turns-few : (k : ℕ) → k ≤ 256 → (k - 1) * trialsOf k ≤ 1785
 turns-few k h = let l : k - 1 ≤ 255 = omega arith in omega (arith, mul-le-mul l (trials-few k))
 
-seedings-mono : (k i j : ℕ) → i ≤ j → seedingsOf k i ≤ seedingsOf k j
+pub seedings-mono : (k i j : ℕ) → i ≤ j → seedingsOf k i ≤ seedingsOf k j
 unfolding seedingsOf
 seedings-mono k zero j h = zero-le
 seedings-mono k (suc i) zero h = absurd (not-suc-le-zero h)

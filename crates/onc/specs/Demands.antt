@@ -2,23 +2,25 @@
 -- `demands` in proofs/Demands.antt proves them of every call.
 use Prim.Native.Nat.{ℕ, _+_, _*_, _<_, _≤_}
 use mathlib.Core.Path.{_≡_}
-use mathlib.Core.Bool.{true, false}
+use mathlib.Core.Bool.{Bool, true, false}
 use mathlib.Core.List.{List, [], _∷_, _++_}
 use lib.ListN.{length, take, drop}
-use lib.Ieee.{Float}
+use lib.Ieee.{Float, lt}
 use Rattle.lists.specs.Lists.{listed, numbers, cellAt}
 use Rattle.refusals.specs.Table.{none, wiped, wipedNumbers}
 use Rattle.distance.specs.Distance.{distAt}
 use Rattle.silhouette_areas.specs.Scoring.{scoresOf}
+use Rattle.draws.specs.Claim.{WholeLn, lnPart, roundDraws}
 use Rattle.draws.specs.Draws.{Drawn, drawn, refused}
 use Rattle.draws.specs.declared.Stop.the-variants.{Rounds, Short, DrawOutOfRange, ClusteringFailed}
 use Rattle.partition.specs.Partition.{Partition, State, has, groupAt, labelOf, joined}
 use Rattle.partition.specs.Orders.{sizesOf, cut}
 use Rattle.candidates.specs.Candidates.{Candidate, Best, found, bestOf}
 use Rattle.candidates.specs.Ranges.{RoundOutOfRange}
-use Rattle.quality.specs.Quality.{qualitiesOf, weakCount}
+use Rattle.quality.specs.Quality.{qualitiesOf, weakCount, weakMean}
 use Rattle.base.specs.Base.{baseOf}
-use Rattle.improve_merge.specs.Merging.{weakItems}
+use Rattle.improve_merge.specs.Merging.{weakItems, mergedOf}
+use Rattle.improve.specs.Improve.{rescored, meanQuality}
 use Rattle.row_numbers.specs.Rows.{rowsOf}
 use Rattle.round.specs.Round.{Run, done, ended, needOf, totalOf}
 use Rattle.onc_answers.specs.Answers.{Answer, refusing}
@@ -114,14 +116,42 @@ pub record GroupingOf (book : List Float) (n : ℕ) (s : State) (o : Outcome) : 
 abbrev pub searchOf : List Float → ℕ → ℕ → List ℕ → (before items : List ℕ) → Drawn Best
 searchOf book n repeat draws before items = bestOf (distAt book n items) (length items) repeat (totalOf repeat before) (drop (totalOf repeat before) draws)
 
+-- it finds the candidate c, and takes exactly its count of draws
+abbrev pub Finds : List Float → ℕ → ℕ → List ℕ → (before items : List ℕ) → Candidate → Type 0
+Finds book n repeat draws before items c =
+    searchOf book n repeat draws before items ≡ drawn (found c) (drop (totalOf repeat before + needOf repeat (length items)) draws)
+
+-- how many groups of a round's base are weak, the base being the groups of the candidate c
+abbrev pub weakIn : List ℕ → Candidate → ℕ
+weakIn items c = weakCount (qualitiesOf (c .scores) (baseOf (length items) c .groups))
+
 -- a round over `items` (rows of the book) is reached after rounds of `before` items, which took exactly their counts: the first round is over all names,
 -- and each later one over the items of the weak groups of the base before it, of which there are more than two
 pub data Reached (book : List Float) (n repeat : ℕ) (draws : List ℕ) : List ℕ → List ℕ → Type 0 where
   first : Reached book n repeat draws [] (listed (λ i. i) n)
-  next : (before items : List ℕ) (c : Candidate) → Reached book n repeat draws before items
-      → searchOf book n repeat draws before items ≡ drawn (found c) (drop (totalOf repeat before + needOf repeat (length items)) draws)
-      → 2 < weakCount (qualitiesOf (c .scores) (baseOf (length items) c .groups))
-      → Reached book n repeat draws (before ++ (length items ∷ [])) (rowsOf items (weakItems (baseOf (length items) c)))
+  next : (before items : List ℕ) (c : Candidate) → Reached book n repeat draws before items → Finds book n repeat draws before items c
+      → 2 < weakIn items c → Reached book n repeat draws (before ++ (length items ∷ [])) (rowsOf items (weakItems (baseOf (length items) c)))
+
+-- the base with its weak groups replaced by the groups of a round over their items, scored afresh
+abbrev pub mergedIn : List Float → ℕ → List ℕ → Candidate → State → State
+mergedIn book n items c inner = rescored (distAt book n items) (length items) (mergedOf (baseOf (length items) c) (inner .groups))
+
+-- the average of its groups' t-stats is above that of the base's weak groups
+abbrev pub improves : List Float → ℕ → List ℕ → Candidate → State → Bool
+improves book n items c inner = lt (weakMean (qualitiesOf (c .scores) (baseOf (length items) c .groups))) (meanQuality (mergedIn book n items c inner))
+
+-- How the partition s comes out of a round over `items`, after rounds of `before` items. With two weak groups or fewer it is the round's base: the groups
+-- and the scores of the candidate that its search finds. With more, the round over the items of the weak groups gives the partition `inner`: s is the base with
+-- the groups of `inner` in place of the weak ones where that improves, and else the base.
+pub data Made (book : List Float) (n repeat : ℕ) (draws : List ℕ) : List ℕ → List ℕ → State → Type 0 where
+  few-weak : (before items : List ℕ) (c : Candidate) → Finds book n repeat draws before items c → weakIn items c ≤ 2
+      → Made book n repeat draws before items (baseOf (length items) c)
+  improved : (before items : List ℕ) (c : Candidate) (inner : State) → Finds book n repeat draws before items c → 2 < weakIn items c
+      → Made book n repeat draws (before ++ (length items ∷ [])) (rowsOf items (weakItems (baseOf (length items) c))) inner
+      → improves book n items c inner ≡ true → Made book n repeat draws before items (mergedIn book n items c inner)
+  not-improved : (before items : List ℕ) (c : Candidate) (inner : State) → Finds book n repeat draws before items c → 2 < weakIn items c
+      → Made book n repeat draws (before ++ (length items ∷ [])) (rowsOf items (weakItems (baseOf (length items) c))) inner
+      → improves book n items c inner ≡ false → Made book n repeat draws before items (baseOf (length items) c)
 
 -- how 8 is met, at the place p of a draw: in the last round that started, which is reached, has two items or more, and has its draws. Its search meets the
 -- draw, one of its own, and the draw is out of range: an index that is not below the number of items, or a share that is not below 2 ^ 53.
@@ -165,10 +195,21 @@ pub record AsLong (l l′ : Lists) : Type 0 where
   pub floats : length (l′ .floats) ≡ length (l .floats)
   pub numbers : length (l′ .numbers) ≡ length (l .numbers)
 
+-- f of each number of a list, summed
+abbrev pub sumOver : (ℕ → ℕ) → List ℕ → ℕ
+sumOver f [] = 0
+sumOver f (m ∷ ms) = f m + sumOver f ms
+
+-- `count` is the sum over rounds of m items, for each m of ms: `repeat` times the sum, for k from 2 to the larger of 2 and m - 1, of 1 + (k - 1) times (2 + the
+-- whole part of ln k). `ln` is any function that gives these whole parts; `Demands` names one
+abbrev pub SumOf : (repeat : ℕ) → List ℕ → ℕ → Type 0
+SumOf repeat ms count = (ln : ℕ → ℕ) → ((k : ℕ) → 2 ≤ k → k ≤ 256 → WholeLn k (ln k)) → count ≡ sumOver (λ m. repeat * roundDraws ln m) ms
+
 -- of a call that ends in a grouping and reports `count` draws: they are the sum over the rounds, a losing re-clustering included, at most 32 times the
 -- first round's; and every other list of draws that begins with those gives the same answer and the same outputs, and so the same labels
 pub record Counted (book : List Float) (rows cols repeat : ℕ) (draws : List ℕ) (l : Lists) (count : ℕ) : Type 0 where
-  pub sum : count ≡ totalOf repeat (roundsOf (runOf book rows repeat draws))
+  pub sum : SumOf repeat (roundsOf (runOf book rows repeat draws)) count
+  pub total : count ≡ totalOf repeat (roundsOf (runOf book rows repeat draws))
   pub most : count ≤ 32 * needOf repeat rows
   pub there : count ≤ length draws
   pub same : (draws′ : List ℕ) (l′ : Lists) → AsLong l l′ → take count draws′ ≡ take count draws
@@ -177,24 +218,36 @@ pub record Counted (book : List Float) (rows cols repeat : ℕ) (draws : List �
       → labelsIn rows (outputs (groupOf book rows cols repeat draws′ l′)) ≡ labelsIn rows (outputs (groupOf book rows cols repeat draws l))
 
 -- What a run of n names reads of its draws, however it ends. At most 32 rounds start, and their draws were there. A grouping comes after a round that is
--- reached and finds a candidate with two weak groups or fewer. 9 and 7 are met by a round that is reached and does not start: 9 after 32 rounds, 7 where
--- fewer draws remain than the round needs, and 7 gives the sum over the rounds that started. 8 is met at a draw out of range, and at no other. 3 is
--- not met: every round that starts and is not ended by 8 finds a candidate.
+-- reached and finds a candidate with two weak groups or fewer, and its partition s is what `Made` says of the first round, over all names. 9 and 7 are met by
+-- a round that is reached and does not start: 9 after 32 rounds, 7 where fewer draws remain than the round needs, and 7 gives the sum over the rounds that
+-- started. 8 is met at a draw out of range, and at no other. 3 is not met: every round that starts and is not ended by 8 finds a candidate.
 abbrev pub EndsBy : List Float → ℕ → ℕ → List ℕ → Run → Type 0
 EndsBy book n repeat draws (done s ms read rest) =
-    (read ≡ totalOf repeat ms) × (rest ≡ drop read draws)
+    (read ≡ totalOf repeat ms) × (rest ≡ drop read draws) × Made book n repeat draws [] (listed (λ i. i) n) s
     × (before : List ℕ) × (items : List ℕ) × (c : Candidate) × Reached book n repeat draws before items × (ms ≡ before ++ (length items ∷ []))
-    × (searchOf book n repeat draws before items ≡ drawn (found c) rest) × (weakCount (qualitiesOf (c .scores) (baseOf (length items) c .groups)) ≤ 2)
+    × (searchOf book n repeat draws before items ≡ drawn (found c) rest) × (weakIn items c ≤ 2)
 EndsBy book n repeat draws (ended Rounds ms) = (length ms ≡ 32) × (items : List ℕ) × Reached book n repeat draws ms items
 EndsBy book n repeat draws (ended (Short k) ms) =
     (k ≡ totalOf repeat ms) × (items : List ℕ) × Reached book n repeat draws ms items × (length draws < k + needOf repeat (length items))
 EndsBy book n repeat draws (ended (DrawOutOfRange p) ms) = MeetsDraw book n repeat draws p ms
 EndsBy book n repeat draws (ended ClusteringFailed ms) = ⊥
 
+-- the run was ended by 8, at the place q or in front of it
+abbrev pub StoppedBy : ℕ → Run → Type 0
+StoppedBy q (done s ms read rest) = ⊥
+StoppedBy q (ended Rounds ms) = ⊥
+StoppedBy q (ended (Short k) ms) = ⊥
+StoppedBy q (ended (DrawOutOfRange p) ms) = p ≤ q
+StoppedBy q (ended ClusteringFailed ms) = ⊥
+
+-- All draws that a run reads are in range, but for the one that 8 names (`in-range`): a draw out of range, of any round that started, ends the run with 8, there
+-- or at one in front of it. The rounds that started are those that are reached after fewer rounds than started.
 pub record DrawsRead (book : List Float) (n repeat : ℕ) (draws : List ℕ) (r : Run) : Type 0 where
   pub rounds : length (roundsOf r) ≤ 32
   pub there : totalOf repeat (roundsOf r) ≤ length draws
   pub ends : EndsBy book n repeat draws r
+  pub in-range : (before items : List ℕ) (q : ℕ) → Reached book n repeat draws before items → length before < length (roundsOf r)
+      → RoundOutOfRange (distAt book n items) (length items) repeat (totalOf repeat before) draws q → StoppedBy q r
 
 -- what a call answers by how its run ends: the number and place of each refusal, which is never 3, and of a grouping its groups and the draws read
 abbrev pub Tells : Run → Answer → Type 0
@@ -210,7 +263,7 @@ pub record Demand3 (book : List Float) (rows cols repeat : ℕ) (draws : List �
   pub grouped : groupOf book rows cols repeat draws l .answer .refused .number ≡ 0
       → Counted book rows cols repeat draws l (groupOf book rows cols repeat draws l .answer .read)
   pub short : groupOf book rows cols repeat draws l .answer .refused .number ≡ 7
-      → groupOf book rows cols repeat draws l .answer .refused .place ≡ totalOf repeat (roundsOf (runOf book rows repeat draws))
+      → SumOf repeat (roundsOf (runOf book rows repeat draws)) (groupOf book rows cols repeat draws l .answer .refused .place)
   pub tells : rows ≡ cols → Within book rows repeat l → Tells (runOf book rows repeat draws) (groupOf book rows cols repeat draws l .answer)
   pub reads : 2 ≤ rows → rows ≤ 256 → 1 ≤ repeat → DrawsRead book rows repeat draws (runOf book rows repeat draws)
 
@@ -220,3 +273,5 @@ pub record Demands : Type 0 where
       → Demand1 book rows cols repeat (groupOf book rows cols repeat draws l) l
   pub second : (book : List Float) (n repeat : ℕ) (draws : List ℕ) (l : Lists) → Within book n repeat l → Demand2 book n repeat draws l
   pub third : (book : List Float) (rows cols repeat : ℕ) (draws : List ℕ) (l : Lists) → Demand3 book rows cols repeat draws l
+  -- the whole parts of logarithms of which the third speaks
+  pub logarithms : (k : ℕ) → 2 ≤ k → k ≤ 256 → WholeLn k (lnPart k)

@@ -1,23 +1,26 @@
--- A draw that ends a seeding is out of range, where there are draws enough (specs/Ranges.antt).
+-- A draw that ends a seeding is out of range, where there are draws enough (specs/Ranges.antt); and a draw out of range ends it, there or in front of it.
 use Prim.Native.Nat.{ℕ, zero, suc, _+_, _-_, _*_, _<_, _≤_}
 use mathlib.Core.Path.{_≡_, refl, sym, _∙_, ap, subst}
 use mathlib.Core.List.{List, [], _∷_, _++_, foldl-append}
-use native.Mathlib.Nat.{suc-mul, zero-mul}
+use native.Mathlib.Nat.{suc-mul, zero-mul, not-suc-le-zero, le-of-suc-le-suc}
 use native.Mathlib.Omega.{arith}
 use lib.ListN.{length, drop}
+use lib.Seq.{drop-drop}
 use lib.Ieee.{Float, fin, inf, nan, lt, isNan}
 use Rattle.lists.specs.Lists.{cells, listed, numbers}
 use Rattle.lists.specs.Sums.{sumTo}
 use Rattle.lists.proofs.Listed.{getD-listed, listed-same}
 use Rattle.lists.proofs.Sums.{sum-same}
 use Rattle.draws.specs.Counts.{trialsOf, seedingOf}
-use Rattle.draws.specs.Draws.{drawn, one}
+use Rattle.draws.specs.Draws.{Drawn, drawn, refused, one, andThen}
 use Rattle.draws.proofs.Counting.{trials-some}
-use Rattle.draws.proofs.Bad.{Reads, Above, reads-map, then-reads, takes-bad}
+use Rattle.draws.proofs.Taken.{Ends, took}
+use Rattle.draws.proofs.Bad.{Reads, Above, reads-map, then-reads, takes-bad, Stops, then-stops, takes-out}
 use Rattle.plusplus_pick.specs.declared.Trial.{Trial}
 use Rattle.plusplus_pick.specs.Potentials.{lesserNumber, with, limit}
 use Rattle.plusplus_trials.specs.Trials.{nextOf}
-use Rattle.plusplus_trials.proofs.Bad.{next-bad}
+use Rattle.plusplus_trials.proofs.Bad.{next-bad, next-out}
+use Rattle.plusplus_trials.proofs.Centring.{next-took}
 use Rattle.plusplus.specs.Seeding.{centresOf, firstCentres, seeding}
 use Rattle.plusplus.specs.Ranges.{weightTo, OutOfRange, first, trial}
 
@@ -130,3 +133,66 @@ seeding-bad q m k draws at l =
         subst (OutOfRange q m k at draws) (sym (o .place))
         (trial (o .turn) (o .which) (o .centres) (o .turn-few) (o .which-few) is
         (subst (λ (i : ℕ). limit (sumTo (weightTo q (o .centres)) m) m ≤ numbers draws i) (o .place) (o .bad)))
+
+-- a trial's draw out of range, with j centres more chosen in front of it
+module _ (q : ℕ → ℕ → Float) (m t : ℕ) (z : 0 < m) (some : 0 < t) (draws : List ℕ) (i : ℕ) (which : i < t) (chosen : List ℕ) where
+  abbrev Out : (j more : ℕ) → List Float → List ℕ → ℕ → Type 0
+  Out j more ws cs at =
+      ws ≡ listed (weightTo q cs) m → centresOf q m t j ws cs at (drop at draws) ≡ drawn chosen (drop (at + j * t) draws)
+      → limit (sumTo (weightTo q chosen) m) m ≤ numbers draws (at + j * t + i) → Stops (at + j * t + i) (centresOf q m t more ws cs at (drop at draws))
+
+  out-now : (more : ℕ) (ws : List Float) (cs : List ℕ) (at : ℕ) → Out 0 (suc more) ws cs at
+  unfolding centresOf
+  out-now more ws cs at e d b =
+      let same : cs ≡ chosen = cc in
+      let total : sumTo (cells ws) m ≡ sumTo (weightTo q chosen) m = total-is q m ws cs e ∙ ap (λ (l : List ℕ). sumTo (weightTo q l) m) same in
+      then-stops (at + 0 * t + i) (nextOf q m t ws at (drop at draws)) (λ x rest. centresOf q m t more (listed (with q (cells ws) (x .pick)) m) (cs ++ (x .pick ∷ [])) (at + t) rest)
+      (next-out q m t ws draws at (at + 0 * t + i) (omega arith, omega (arith, zero-mul t), subst (λ (x : Float). limit x m ≤ numbers draws (at + 0 * t + i)) (sym total) b))
+
+  out-later : (j more : ℕ) (ws : List Float) (cs : List ℕ) (at : ℕ) → ((ws : List Float) (cs : List ℕ) → Out j more ws cs (at + t)) → Out (suc j) (suc more) ws cs at
+  unfolding centresOf
+  out-later j more ws cs at ih e d b =
+      by-next (nextOf q m t ws at (drop at draws)) (next-took q m t z some ws at (drop at draws)) d
+    where
+      by-next : (D : Drawn Trial) → Ends (λ x rest. (x .pick < m) × (rest ≡ drop t (drop at draws)) × (t ≤ length (drop at draws))) (λ p. (at ≤ p) × (p < at + t)) D
+          → andThen D (λ x rest. centresOf q m t j (listed (with q (cells ws) (x .pick)) m) (cs ++ (x .pick ∷ [])) (at + t) rest) ≡ drawn chosen (drop (at + suc j * t) draws)
+          → Stops (at + suc j * t + i) (andThen D (λ x rest. centresOf q m t more (listed (with q (cells ws) (x .pick)) m) (cs ++ (x .pick ∷ [])) (at + t) rest))
+      by-next (drawn x rest) h c =
+          let y : at + t + j * t ≡ at + suc j * t = omega (arith, suc-mul j t) in
+          let ws′ = listed (with q (cells ws) (x .pick)) m in
+          let cs′ = cs ++ (x .pick ∷ []) in
+          let r : rest ≡ drop (at + t) draws = h .1 ∙ drop-drop t at draws in
+          let c′ : centresOf q m t j ws′ cs′ (at + t) (drop (at + t) draws) ≡ drawn chosen (drop (at + t + j * t) draws) =
+          ap (centresOf q m t j ws′ cs′ (at + t)) (sym r) ∙ c ∙ ap (λ (n : ℕ). drawn chosen (drop n draws)) (sym y) in
+          let b′ : limit (sumTo (weightTo q chosen) m) m ≤ numbers draws (at + t + j * t + i) = subst (λ (n : ℕ). limit (sumTo (weightTo q chosen) m) m ≤ numbers draws (n + i)) (sym y) b in
+          subst (λ (n : ℕ). Stops (n + i) (centresOf q m t more ws′ cs′ (at + t) rest)) y
+          (subst (λ (l : List ℕ). Stops (at + t + j * t + i) (centresOf q m t more ws′ cs′ (at + t) l)) (sym r) (ih ws′ cs′ (weights-more q m ws cs (x .pick) e) c′ b′))
+      by-next (refused p) h c = let n : _≡_ {A = ℕ} 0 1 = cc in let y : ⊥ = omega arith in absurd y
+
+  centres-out : (j more : ℕ) → j < more → (ws : List Float) (cs : List ℕ) (at : ℕ) → Out j more ws cs at
+  centres-out j zero h ws cs at = absurd (not-suc-le-zero h)
+  centres-out zero (suc more) h ws cs at = out-now more ws cs at
+  centres-out (suc j) (suc more) h ws cs at = out-later j more ws cs at (λ ws′ cs′. centres-out j more (le-of-suc-le-suc h) ws′ cs′ (at + t))
+
+module _ (q : ℕ → ℕ → Float) (m k : ℕ) (draws : List ℕ) (at : ℕ) where
+  pub seeding-out : 0 < m → {p : ℕ} → OutOfRange q m k at draws p → Stops p (seeding q m k at (drop at draws))
+  unfolding seeding
+  seeding-out z (first b) =
+      then-stops at (one m at (drop at draws)) (λ c rest. centresOf q m (trialsOf k) (k - 1) (listed (q c) m) (c ∷ []) (at + 1) rest)
+      (takes-out m (λ s d. d) draws 1 0 at at (omega arith, omega arith, b))
+  seeding-out z (trial j i cs turn which d b) = by-first (one m at (drop at draws)) (took m (λ s d. d) (λ d. Unit) (λ s d h g. tt) 1 0 at (drop at draws) tt) d
+    where
+      by-first : (D : Drawn ℕ) → Ends (λ c rest. Unit × (rest ≡ drop 1 (drop at draws)) × (1 ≤ length (drop at draws))) (λ p. (at ≤ p) × (p < at + 1)) D
+          → andThen D (λ c rest. centresOf q m (trialsOf k) j (listed (q c) m) (c ∷ []) (at + 1) rest) ≡ drawn cs (drop (at + 1 + j * trialsOf k) draws)
+          → Stops (at + 1 + j * trialsOf k + i) (andThen D (λ c rest. centresOf q m (trialsOf k) (k - 1) (listed (q c) m) (c ∷ []) (at + 1) rest))
+      by-first (drawn c rest) h e =
+          let r : rest ≡ drop (at + 1) draws = h .1 ∙ drop-drop 1 at draws in
+          subst (λ (l : List ℕ). Stops (at + 1 + j * trialsOf k + i) (centresOf q m (trialsOf k) (k - 1) (listed (q c) m) (c ∷ []) (at + 1) l)) (sym r)
+          (centres-out q m (trialsOf k) z (trials-some k) draws i which cs j (k - 1) turn (listed (q c) m) (c ∷ []) (at + 1) (weights-one q m c)
+          (ap (centresOf q m (trialsOf k) j (listed (q c) m) (c ∷ []) (at + 1)) (sym r) ∙ e) b)
+      by-first (refused p) h e = let n : _≡_ {A = ℕ} 0 1 = cc in let y : ⊥ = omega arith in absurd y
+
+  -- it does not stand in front of the seeding's draws
+  pub out-from : {p : ℕ} → OutOfRange q m k at draws p → at ≤ p
+  out-from (first b) = omega arith
+  out-from (trial j i cs turn which d b) = omega arith
