@@ -3,6 +3,7 @@ pub mod Calls
 pub mod Demands
 pub mod Groupings
 pub mod Rounds
+pub mod Only
 pub mod Reading
 pub mod Shapes
 pub mod Certain

@@ -20,12 +20,13 @@ use Rattle.round.proofs.Spends.{Spends, Few, draws-none, draws-more}
 use Rattle.certain_runs.specs.Certain.{CertainRun}
 use Rattle.onc_run.specs.Run.{Lists, Outcome, runOf, finalOf, ran}
 use Rattle.onc.specs.Onc.{shape, groupOf}
-use Rattle.onc.specs.Demands.{Cause, no-repeat, not-square, few-rows, many-rows, many-repeats, cell-count, list-length, outputs, labelsIn, roundsOf, AsLong, SumOf, Counted, EndsBy, Tells, Demand3}
+use Rattle.onc.specs.Demands.{Cause, no-repeat, not-square, few-rows, many-rows, many-repeats, cell-count, list-length, outputs, labelsIn, roundsOf, AsLong, SumOf, Counted, EndsBy, DrawsRead, Tells, Demand3}
 use Rattle.onc.proofs.Shapes.{shape-cause, shape-within, shape-same}
 use Rattle.onc.proofs.Calls.{call-ran, by-call, within-ran, run-certain, within-certain}
 use Rattle.onc_run.proofs.Runs.{all, all-length, run-spends}
 use Rattle.onc.proofs.Groupings.{search-same, reached-same, meets-draw}
 use Rattle.onc.proofs.Rounds.{in-range, MadeBy, run-made}
+use Rattle.onc.proofs.Only.{one-run}
 
 -- no refusal before the run has the number 0 or 7
 not-seven : {book : List Float} {rows cols repeat : ℕ} {l : Lists} {k : ℕ} → Cause book rows cols repeat l k → k ≡ 7 → ⊥
@@ -65,7 +66,7 @@ module _ (book : List Float) (rows repeat : ℕ) (draws : List ℕ) where
       )
   ends-by (ended Rounds ms) c k h = (k .count, k .items, reached-same book rows repeat draws (k .reached))
   ends-by (ended (Short p) ms) c k h =
-      let count : p ≡ totalOf repeat ms = omega (arith, k .place) in (count, k .items, reached-same book rows repeat draws (k .reached), omega (arith, count, k .short))
+      let count : p ≡ totalOf repeat ms = omega (arith, k .place) in (count, omega (arith, k .count), k .items, reached-same book rows repeat draws (k .reached), omega (arith, count, k .short))
   ends-by (ended (DrawOutOfRange p) ms) c k h = meets-draw book rows repeat draws p ms k
   ends-by (ended ClusteringFailed ms) c k h = c refl
 
@@ -149,14 +150,8 @@ third book rows cols repeat draws l =
           (λ e h. absurd (not-seven (shape-cause book rows cols repeat l e) h));
       tells = λ square w. subst (λ (c : ℕ). Tells r (groupOf book rows c repeat draws l .answer)) square
           (subst (λ (o : Outcome). Tells r (o .answer)) (sym (within-ran book rows repeat draws l w)) (run-tells book rows repeat draws l r (within-certain book rows repeat draws w)));
-      reads = λ two few some.
-          let c = run-certain book rows repeat draws two few some in
-          record {
-            rounds = few-rounds book rows repeat draws r c (took two);
-            there = draws-there book rows repeat draws r c (took two);
-            ends = ends-by book rows repeat draws r c (took two) (run-made book rows repeat draws two);
-            in-range = in-range book rows repeat draws two r c (took two);
-          };
+      reads = reads;
+      only = λ two few some r′ d. one-run book rows repeat draws r′ r d (reads two few some);
     }
   where
     r : Run
@@ -164,3 +159,13 @@ third book rows cols repeat draws l =
 
     took : 2 ≤ rows → Spends book rows repeat 32 (all rows) 0 draws r
     took = run-spends book rows repeat draws
+
+    reads : 2 ≤ rows → rows ≤ 256 → 1 ≤ repeat → DrawsRead book rows repeat draws r
+    reads two few some =
+        let c = run-certain book rows repeat draws two few some in
+        record {
+          rounds = few-rounds book rows repeat draws r c (took two);
+          there = draws-there book rows repeat draws r c (took two);
+          ends = ends-by book rows repeat draws r c (took two) (run-made book rows repeat draws two);
+          in-range = in-range book rows repeat draws two r c (took two);
+        }

@@ -38,7 +38,7 @@ use Rattle.onc.proofs.Groupings.{draws-append, search-same, search-rest
 
 module _ (book : List Float) (n repeat : ℕ) (draws : List ℕ) where
   -- the round that is reached after so many rounds is one alone
-  same-round : {before items before′ items′ : List ℕ} → Reached book n repeat draws before items → Reached book n repeat draws before′ items′ → length before ≡ length before′
+  pub same-round : {before items before′ items′ : List ℕ} → Reached book n repeat draws before items → Reached book n repeat draws before′ items′ → length before ≡ length before′
       → (before ≡ before′) × (items ≡ items′)
   same-round first first e = (refl, refl)
   same-round first (next b i c h q w) e = let y : ⊥ = omega (arith, length-append b (length i ∷ [])) in absurd y
@@ -50,15 +50,22 @@ module _ (book : List Float) (n repeat : ℕ) (draws : List ℕ) where
       let k : c ≡ c′ = cc in
       (ap₂ (λ (v w : List ℕ). v ++ (length w ∷ [])) (s .0) (s .1), ap₂ (λ (v : List ℕ) (x : Candidate). rowsOf v (weakItems (baseOf (length v) x))) (s .1) k)
 
-  -- a round that another is reached after found its candidate
-  passed : {before items before′ items′ : List ℕ} → Reached book n repeat draws before items → Reached book n repeat draws before′ items′ → length before < length before′
-      → (c : Candidate) × (rest : List ℕ) × (searchOf book n repeat draws before items ≡ drawn (found c) rest)
+  -- a round found its candidate, with more than two weak groups, and its draws are among the first `to`
+  abbrev pub Passed : (before items : List ℕ) → ℕ → Type 0
+  Passed before items to =
+      (c : Candidate) × Finds book n repeat draws before items c × (2 < weakIn items c) × (totalOf repeat before + needOf repeat (length items) ≤ to)
+
+  -- so did each round that another is reached after
+  pub passed : {before items before′ items′ : List ℕ} → Reached book n repeat draws before items → Reached book n repeat draws before′ items′ → length before < length before′
+      → Passed before items (totalOf repeat before′)
   passed h first l = absurd (not-suc-le-zero l)
   passed {before} {items} h (next b i c h′ q w) l =
-      by-cases (decLt (length before) (length b)) (λ g. passed h h′ g)
+      let to = totalOf repeat (b ++ (length i ∷ [])) in
+      let t : totalOf repeat b + needOf repeat (length i) ≤ to = omega (arith, draws-append repeat b (length i)) in
+      by-cases (decLt (length before) (length b)) (λ g. let r = passed h h′ g in (r .0, r .1, r .2, omega (arith, r .3, t)))
       (λ g.
       let s = same-round h h′ (omega (arith, length-append b (length i ∷ []))) in
-      (c, drop (totalOf repeat b + needOf repeat (length i)) draws, ap₂ (searchOf book n repeat draws) (s .0) (s .1) ∙ q))
+      subst (λ (v : List ℕ). Passed v items to) (sym (s .0)) (subst (λ (v : List ℕ). Passed b v to) (sym (s .1)) (c, q, w, t)))
 
   -- it has two items or more
   next-some : (before items : List ℕ) (c : Candidate) → 2 ≤ length items → Finds book n repeat draws before items c → 2 < weakIn items c
@@ -83,7 +90,7 @@ module _ (book : List Float) (n repeat : ℕ) (draws : List ℕ) where
   -- so it is no draw of a round that another is reached after
   passed-good : 2 ≤ n → (before items : List ℕ) (q : ℕ) {before′ items′ : List ℕ} → Reached book n repeat draws before items → Reached book n repeat draws before′ items′
       → length before < length before′ → RoundOutOfRange (distAt book n items) (length items) repeat (totalOf repeat before) draws q → ⊥
-  passed-good two before items q h h′ l o = let e = passed h h′ l in subst (Stops q) (e .2) (search-stops two before items q h o)
+  passed-good two before items q h h′ l o = let e = passed h h′ l in subst (Stops q) (e .1) (search-stops two before items q h o)
 
   -- and as a draw of the last round it ends the search of that
   last-stops : 2 ≤ n → (last these : List ℕ) (D : Drawn Best) → Reached book n repeat draws last these → searchOf book n repeat draws last these ≡ D
@@ -135,7 +142,7 @@ module _ (book : List Float) (n repeat : ℕ) (draws : List ℕ) where
           (afterInner (distAt book n items) (length items) (baseOf (length items) c)
           (roundOf book n repeat left (rowsOf items (weakItems (baseOf (length items) c))) (totalOf repeat before + needOf repeat (length items))
           (drop (totalOf repeat before + needOf repeat (length items)) draws))))
-      base-made true e = few-weak before items c q (leb-true (weakIn items c) 2 e)
+      base-made true e = few-weak before items c q (omega (arith, leb-true (weakIn items c) 2 e))
       base-made false e =
           let w : 2 < weakIn items c = leb-false (weakIn items c) 2 e in
           let inner = rowsOf items (weakItems (baseOf (length items) c)) in

@@ -154,7 +154,8 @@ pub data Made (book : List Float) (n repeat : ℕ) (draws : List ℕ) : List ℕ
       → improves book n items c inner ≡ false → Made book n repeat draws before items (baseOf (length items) c)
 
 -- how 8 is met, at the place p of a draw: in the last round that started, which is reached, has two items or more, and has its draws. Its search meets the
--- draw, one of its own, and the draw is out of range: an index that is not below the number of items, or a share that is not below 2 ^ 53.
+-- draw, one of its own, and the draw is out of range: an index that is not below the number of items, or a share that is not below 2 ^ 53. No draw in
+-- front of it is (`in-range` of DrawsRead).
 abbrev pub MeetsDraw : List Float → ℕ → ℕ → List ℕ → ℕ → List ℕ → Type 0
 MeetsDraw book n repeat draws p ms =
     (before : List ℕ) × (items : List ℕ) × Reached book n repeat draws before items × (ms ≡ before ++ (length items ∷ [])) × (2 ≤ length items)
@@ -219,8 +220,8 @@ pub record Counted (book : List Float) (rows cols repeat : ℕ) (draws : List �
 
 -- What a run of n names reads of its draws, however it ends. At most 32 rounds start, and their draws were there. A grouping comes after a round that is
 -- reached and finds a candidate with two weak groups or fewer, and its partition s is what `Made` says of the first round, over all names. 9 and 7 are met by
--- a round that is reached and does not start: 9 after 32 rounds, 7 where fewer draws remain than the round needs, and 7 gives the sum over the rounds that
--- started. 8 is met at a draw out of range, and at no other. 3 is not met: every round that starts and is not ended by 8 finds a candidate.
+-- a round that is reached and does not start: 9 after 32 rounds, 7 after fewer where fewer draws remain than the round needs, and 7 gives the sum over the rounds
+-- that started. 8 is met at a draw out of range, and at no other. 3 is not met: every round that starts and is not ended by 8 finds a candidate.
 abbrev pub EndsBy : List Float → ℕ → ℕ → List ℕ → Run → Type 0
 EndsBy book n repeat draws (done s ms read rest) =
     (read ≡ totalOf repeat ms) × (rest ≡ drop read draws) × Made book n repeat draws [] (listed (λ i. i) n) s
@@ -228,7 +229,7 @@ EndsBy book n repeat draws (done s ms read rest) =
     × (searchOf book n repeat draws before items ≡ drawn (found c) rest) × (weakIn items c ≤ 2)
 EndsBy book n repeat draws (ended Rounds ms) = (length ms ≡ 32) × (items : List ℕ) × Reached book n repeat draws ms items
 EndsBy book n repeat draws (ended (Short k) ms) =
-    (k ≡ totalOf repeat ms) × (items : List ℕ) × Reached book n repeat draws ms items × (length draws < k + needOf repeat (length items))
+    (k ≡ totalOf repeat ms) × (length ms < 32) × (items : List ℕ) × Reached book n repeat draws ms items × (length draws < k + needOf repeat (length items))
 EndsBy book n repeat draws (ended (DrawOutOfRange p) ms) = MeetsDraw book n repeat draws p ms
 EndsBy book n repeat draws (ended ClusteringFailed ms) = ⊥
 
@@ -258,7 +259,8 @@ Tells (ended (DrawOutOfRange p) ms) a = a ≡ refusing (record { number = 8; pla
 Tells (ended ClusteringFailed ms) a = ⊥
 
 -- Demand 3: how many draws a call reads. Where it ends in a grouping, no others matter (`Counted`); 7 gives the sum over the rounds that started; and each way in
--- which a run ends is told by its number and place, and met as `EndsBy` says. The runs of calls have 2 to 256 names and one repeat or more.
+-- which a run ends is told by its number and place, and met as `EndsBy` says. The runs of calls have 2 to 256 names and one repeat or more. `reads` is true of no
+-- other run (`only`): a definition that takes a draw out of range, always keeps the base or makes one group of every book does not meet it.
 pub record Demand3 (book : List Float) (rows cols repeat : ℕ) (draws : List ℕ) (l : Lists) : Type 0 where
   pub grouped : groupOf book rows cols repeat draws l .answer .refused .number ≡ 0
       → Counted book rows cols repeat draws l (groupOf book rows cols repeat draws l .answer .read)
@@ -266,6 +268,7 @@ pub record Demand3 (book : List Float) (rows cols repeat : ℕ) (draws : List �
       → SumOf repeat (roundsOf (runOf book rows repeat draws)) (groupOf book rows cols repeat draws l .answer .refused .place)
   pub tells : rows ≡ cols → Within book rows repeat l → Tells (runOf book rows repeat draws) (groupOf book rows cols repeat draws l .answer)
   pub reads : 2 ≤ rows → rows ≤ 256 → 1 ≤ repeat → DrawsRead book rows repeat draws (runOf book rows repeat draws)
+  pub only : 2 ≤ rows → rows ≤ 256 → 1 ≤ repeat → (r : Run) → DrawsRead book rows repeat draws r → r ≡ runOf book rows repeat draws
 
 -- the three demands, of every call
 pub record Demands : Type 0 where
