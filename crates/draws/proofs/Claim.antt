@@ -11,15 +11,24 @@ use lib.Dec.{ltb, leb}
 use Rattle.lists.specs.Sums.{allTo}
 use Rattle.lists.proofs.Sums.{all-true}
 use Rattle.draws.specs.Counts.{trialsOf, seedingsOf, countOf}
-use Rattle.draws.specs.Claim.{WholeLn, lnPart, sumFrom, roundDraws, CountClaim}
+use Rattle.draws.specs.Claim.{belowE, aboveE, scaleE, factorial, scaledSum, BoundsOfE, WholeLn, lnPart, sumFrom, roundDraws, CountClaim}
 use Rattle.draws.proofs.Counting.{trials-two}
+
+-- computed
+pub bounds-of-e : BoundsOfE
+unfolding factorial scaledSum
+bounds-of-e =
+    record {
+      above = ltb-true (belowE * factorial 14) (scaledSum 14 * scaleE) refl;
+      below = ltb-true ((14 * scaledSum 14 + 1) * scaleE) (aboveE * (14 * factorial 14)) refl;
+    }
 
 -- one test for each k from 2 to 256, computed
 at-most : ℕ → Bool
-at-most k = leb (27182818285 ^ lnPart k) (k * 10000000000 ^ lnPart k)
+at-most k = leb (aboveE ^ lnPart k) (k * scaleE ^ lnPart k)
 
 above : ℕ → Bool
-above k = ltb (k * 10000000000 ^ suc (lnPart k)) (27182818284 ^ suc (lnPart k))
+above k = ltb (k * scaleE ^ suc (lnPart k)) (belowE ^ suc (lnPart k))
 
 all-at-most : allTo (λ j. at-most (j + 2)) 255 ≡ true
 unfolding allTo at-most
@@ -38,8 +47,8 @@ pub whole-ln : (k : ℕ) → 2 ≤ k → k ≤ 256 → WholeLn k (lnPart k)
 unfolding at-most above
 whole-ln k two few =
     record {
-      least = leb-true (27182818285 ^ lnPart k) (k * 10000000000 ^ lnPart k) (from-two at-most all-at-most k two few);
-      most = ltb-true (k * 10000000000 ^ suc (lnPart k)) (27182818284 ^ suc (lnPart k)) (from-two above all-above k two few);
+      least = leb-true (aboveE ^ lnPart k) (k * scaleE ^ lnPart k) (from-two at-most all-at-most k two few);
+      most = ltb-true (k * scaleE ^ suc (lnPart k)) (belowE ^ suc (lnPart k)) (from-two above all-above k two few);
     }
 
 -- a power of b that is above k times that of t stays above it
@@ -55,11 +64,11 @@ above-more t b le some k a (suc j) h =
 -- so there is one whole part alone
 not-below : (k v w : ℕ) → WholeLn k v → WholeLn k w → v < w → ⊥
 not-below k v w a b h =
-    let lower : 27182818284 ≤ 27182818285 = omega arith in
+    let lower : belowE ≤ aboveE = omega arith in
     let e : suc v + (w - suc v) ≡ w = omega arith in
-    let l : k * 10000000000 ^ suc v < 27182818285 ^ suc v = lt-of-lt-of-le (a .most) (pow-le-pow-left lower (suc v)) in
-    let m : k * 10000000000 ^ w < 27182818285 ^ w =
-    subst (λ (i : ℕ). k * 10000000000 ^ i < 27182818285 ^ i) e (above-more 10000000000 27182818285 (omega arith) (omega arith) k (suc v) (w - suc v) l) in
+    let l : k * scaleE ^ suc v < aboveE ^ suc v = lt-of-lt-of-le (a .most) (pow-le-pow-left lower (suc v)) in
+    let m : k * scaleE ^ w < aboveE ^ w =
+    subst (λ (i : ℕ). k * scaleE ^ i < aboveE ^ i) e (above-more scaleE aboveE (omega arith) (omega arith) k (suc v) (w - suc v) l) in
     not-le-of-lt m (b .least)
 
 ln-one : (k v w : ℕ) → WholeLn k v → WholeLn k w → v ≡ w
@@ -80,4 +89,4 @@ counts ln h m few =
     ∙ ap (sumFrom (λ i. 1 + (i - 1) * (2 + ln i)) 2) e
 
 pub count-claim : CountClaim
-count-claim = record { some = whole-ln; count = counts }
+count-claim = record { bounds = bounds-of-e; some = whole-ln; count = counts }

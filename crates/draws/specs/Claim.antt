@@ -4,10 +4,35 @@ use Prim.Native.Nat.{ℕ, zero, suc, _+_, _-_, _*_, _^_, _<_, _≤_, max}
 use mathlib.Core.Path.{_≡_}
 use Rattle.draws.specs.Counts.{trialsOf, countOf}
 
--- w is the whole part of ln k: e to the power w is at most k, and to the next power above it. e is above 2.7182818284 and below 2.7182818285
+-- e times 10 ^ 10 lies between the first two (`BoundsOfE`)
+abbrev pub belowE : ℕ
+belowE = 27182818284
+
+abbrev pub aboveE : ℕ
+aboveE = 27182818285
+
+abbrev pub scaleE : ℕ
+scaleE = 10000000000
+
+-- n!, and n! times the sum of 1 / i! for i from 0 to n, which is a whole number too
+unfoldable pub factorial : ℕ → ℕ
+factorial zero = 1
+factorial (suc n) = suc n * factorial n
+
+unfoldable pub scaledSum : ℕ → ℕ
+scaledSum zero = 1
+scaledSum (suc n) = suc n * scaledSum n + 1
+
+-- e is the sum of 1 / i! for all i. The terms up to 1 / 14! are above 2.7182818284, and with 1 / (14 * 14!), which is more than all terms behind them, they are
+-- below 2.7182818285.
+pub record BoundsOfE : Type 0 where
+  pub above : belowE * factorial 14 < scaledSum 14 * scaleE
+  pub below : (14 * scaledSum 14 + 1) * scaleE < aboveE * (14 * factorial 14)
+
+-- w is the whole part of ln k: e to the power w is at most k, and to the next power above it
 pub record WholeLn (k w : ℕ) : Type 0 where
-  pub least : 27182818285 ^ w ≤ k * 10000000000 ^ w
-  pub most : k * 10000000000 ^ suc w < 27182818284 ^ suc w
+  pub least : aboveE ^ w ≤ k * scaleE ^ w
+  pub most : k * scaleE ^ suc w < belowE ^ suc w
 
 -- f a + f (a + 1) + .., n terms
 unfoldable pub sumFrom : (ℕ → ℕ) → ℕ → ℕ → ℕ
@@ -26,7 +51,8 @@ roundDraws ln m = sumBetween (λ k. 1 + (k - 1) * (2 + ln k)) 2 (max 2 (m - 1))
 abbrev pub lnPart : ℕ → ℕ
 lnPart k = trialsOf k - 2
 
--- What is proved of the counts: `lnPart` gives these whole parts, and with any function that does the count is the sum.
+-- What is proved of the counts: the bounds are those of e, `lnPart` gives these whole parts, and with any function that does the count is the sum.
 pub record CountClaim : Type 0 where
+  pub bounds : BoundsOfE
   pub some : (k : ℕ) → 2 ≤ k → k ≤ 256 → WholeLn k (lnPart k)
   pub count : (ln : ℕ → ℕ) → ((k : ℕ) → 2 ≤ k → k ≤ 256 → WholeLn k (ln k)) → (m : ℕ) → m ≤ 256 → countOf m ≡ roundDraws ln m

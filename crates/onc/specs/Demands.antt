@@ -10,7 +10,7 @@ use Rattle.lists.specs.Lists.{listed, numbers, cellAt}
 use Rattle.refusals.specs.Table.{none, wiped, wipedNumbers}
 use Rattle.distance.specs.Distance.{distAt}
 use Rattle.silhouette_areas.specs.Scoring.{scoresOf}
-use Rattle.draws.specs.Claim.{WholeLn, lnPart, roundDraws}
+use Rattle.draws.specs.Claim.{BoundsOfE, WholeLn, lnPart, roundDraws}
 use Rattle.draws.specs.Draws.{Drawn, drawn, refused}
 use Rattle.draws.specs.declared.Stop.the-variants.{Rounds, Short, DrawOutOfRange, ClusteringFailed}
 use Rattle.partition.specs.Partition.{Partition, State, has, groupAt, labelOf, joined}
@@ -276,5 +276,6 @@ pub record Demands : Type 0 where
       → Demand1 book rows cols repeat (groupOf book rows cols repeat draws l) l
   pub second : (book : List Float) (n repeat : ℕ) (draws : List ℕ) (l : Lists) → Within book n repeat l → Demand2 book n repeat draws l
   pub third : (book : List Float) (rows cols repeat : ℕ) (draws : List ℕ) (l : Lists) → Demand3 book rows cols repeat draws l
-  -- the whole parts of logarithms of which the third speaks
+  -- the whole parts of logarithms of which the third speaks, and the bounds of e by which it does
   pub logarithms : (k : ℕ) → 2 ≤ k → k ≤ 256 → WholeLn k (lnPart k)
+  pub bounds : BoundsOfE
