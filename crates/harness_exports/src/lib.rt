@@ -8,6 +8,7 @@ ghost use Rattle.kmeans_plus_plus.specs.Leaves.{plusPlusLeaf};
 ghost use Rattle.kmeans_lloyd.specs.Leaves.{lloydLeaf};
 ghost use Rattle.kmeans_labels.specs.Leaves.{labelsLeaf};
 ghost use Rattle.lists.specs.Lists.{cells, numbers};
+ghost use Rattle.stats.specs.Average.{mostValues};
 ghost use Rattle.tstat.specs.Tstat.{tstatOf};
 ghost use Rattle.distance.specs.Distance.{Readable, distAt};
 ghost use Rattle.distance_columns.specs.Pair.{squaredAt};
@@ -191,9 +192,10 @@ pub extern "C" fn onc_scores_in(
     silhouette_areas::scores_in(area, m, labels, k, scores);
 }
 
-// The t-statistic of the scores.
+// The t-statistic of at most 65,536 scores. Inner form: 4 is for its callers to ask.
 #[no_mangle]
 pub extern "C" fn onc_tstat_of(scores: &[f64]) -> f64
+    requires { ⌜ length (now scores) ≤ mostValues ⌝ }
     ensures { λ r. ⌜ r ≡ tstatOf (cells (now (scores .entry))) (length (now (scores .entry))) ⌝ }
 {
     tstat::tstat_value(scores)

@@ -24,6 +24,9 @@ module _ (scores : List Float) (ms : List ℕ) {xs : List Float} (rest : List Fl
   pub gathered-long : length ms ≡ length (take (length ms) (xs ++ rest))
   gathered-long = sym gathered-length ∙ ap length (sym gathered-front)
 
+  pub gathered-few : {most : ℕ} → length ms ≤ most → length (take (length ms) (xs ++ rest)) ≤ most
+  gathered-few few = omega (arith, gathered-long)
+
   pub gathered-quality : {r : Float} → r ≡ tstatOf (cells (take (length ms) (xs ++ rest))) (length (take (length ms) (xs ++ rest))) → r ≡ qualityOf scores ms
   unfolding qualityOf
   gathered-quality q =

@@ -45,15 +45,17 @@ pub fn qualities(order: &[usize], sizes: &[usize], scores: &[f64], out: &mut [f6
     }
 }
 
-// The plain average of the t-stats.
+// The plain average of the t-stats, of at most 256 groups.
 pub fn average(qs: &[f64]) -> f64
+    requires { ⌜ length (now qs) ≤ 256 ⌝ }
     ensures { λ r. ⌜ r ≡ quality.average (now (qs .entry)) ⌝ }
 {
     tstat::mean_of_value(qs)
 }
 
-// How many groups are weak.
+// How many groups are weak, of at most 256.
 pub fn weak_count(qs: &[f64]) -> usize
+    requires { ⌜ length (now qs) ≤ 256 ⌝ }
     ensures { λ r. ⌜ r ≡ quality.weakCount (now (qs .entry)) ⌝ }
 {
     let limit = average(qs);
@@ -67,8 +69,9 @@ pub fn weak_count(qs: &[f64]) -> usize
     count
 }
 
-// The plain average of the t-stats of the weak groups.
+// The plain average of the t-stats of the weak groups, of at most 256 groups.
 pub fn weak_mean(qs: &[f64]) -> f64
+    requires { ⌜ length (now qs) ≤ 256 ⌝ }
     ensures { λ r. ⌜ r ≡ quality.weakMean (now (qs .entry)) ⌝ }
 {
     let limit = average(qs);

@@ -1,7 +1,7 @@
 // Mean, variance and standard deviation of a list of doubles.
 ghost use mathlib.Core.Path.{_≡_};
 ghost use mathlib.Core.Bool.{true, false};
-ghost use Prim.Native.Nat.{_<_};
+ghost use Prim.Native.Nat.{_<_, _≤_};
 ghost use lib.ListN.{length};
 ghost use lib.Ieee.Scale.{finite};
 ghost use Rattle.lists.specs.Lists.{cells};
@@ -54,9 +54,9 @@ fn is_constant(values: &[f64]) -> bool
     }
 }
 
-// The mean of one value or more. Inner form.
+// The mean of one value or more, at most 65,536. Inner form: 4 is asked by its callers.
 pub fn mean_value(values: &[f64]) -> f64
-    requires { ⌜ 0 < length (now values) ⌝ }
+    requires { ⌜ (0 < length (now values)) × (length (now values) ≤ average.mostValues) ⌝ }
     ensures { λ r. ⌜ r ≡ average.exactMean (cells (now (values .entry))) (length (now (values .entry))) ⌝ }
 {
     if is_constant(values) {
@@ -92,17 +92,18 @@ pub fn mean(values: &[f64]) -> Average
     Average::Value(mean_value(values))
 }
 
-// The squares of the differences from m, summed, over n - ddof, of more than ddof values. Inner form.
+// The squares of the differences from m, summed, over n - ddof, of more than ddof values, at most 65,536. Inner form: 4 is asked by its
+// callers.
 pub fn variance_about(values: &[f64], m: f64, ddof: usize) -> f64
-    requires { ⌜ ddof < length (now values) ⌝ }
+    requires { ⌜ (ddof < length (now values)) × (length (now values) ≤ average.mostValues) ⌝ }
     ensures { λ r. ⌜ r ≡ average.varianceAbout m (cells (now (values .entry))) (length (now (values .entry))) ddof ⌝ }
 {
     sum_of_squares(values, m) / lists::count_as_f64(values.len() - ddof)
 }
 
-// The variance of more than ddof values. Inner form.
+// The variance of more than ddof values, at most 65,536. Inner form: 4 is asked by its callers.
 fn variance_value(values: &[f64], ddof: usize) -> f64
-    requires { ⌜ ddof < length (now values) ⌝ }
+    requires { ⌜ (ddof < length (now values)) × (length (now values) ≤ average.mostValues) ⌝ }
     ensures { λ r. ⌜ r ≡ average.varianceOf (cells (now (values .entry))) (length (now (values .entry))) ddof ⌝ }
 {
     let m = mean_value(values);

@@ -1,8 +1,9 @@
 // The t-statistic and the plain mean of a list of scores.
 ghost use mathlib.Core.Path.{_≡_};
+ghost use Prim.Native.Nat.{_≤_};
 ghost use lib.ListN.{length};
 ghost use Rattle.lists.specs.Lists.{cells};
-ghost use Rattle.stats.specs.Average.{averagedOf};
+ghost use Rattle.stats.specs.Average.{averagedOf, mostValues};
 ghost use Rattle.tstat.specs.Tstat as spec;
 use stats::Average;
 
@@ -19,8 +20,9 @@ fn ratio(m: f64, s: f64) -> f64
     m / s
 }
 
-// The t-statistic of any number of values: no count is refused. The mean is worked out once.
+// The t-statistic of at most 65,536 values; the mean is worked out once. Inner form: 4 is asked by its callers.
 pub fn tstat_value(values: &[f64]) -> f64
+    requires { ⌜ length (now values) ≤ mostValues ⌝ }
     ensures { λ r. ⌜ r ≡ spec.tstatOf (cells (now (values .entry))) (length (now (values .entry))) ⌝ }
 {
     if values.len() == 0 {
@@ -41,8 +43,9 @@ pub fn tstat(values: &[f64]) -> Average
     Average::Value(tstat_value(values))
 }
 
-// The sum over the count of any number of values: no count is refused.
+// The sum over the count of at most 65,536 values. Inner form: 4 is asked by its callers.
 pub fn mean_of_value(values: &[f64]) -> f64
+    requires { ⌜ length (now values) ≤ mostValues ⌝ }
     ensures { λ r. ⌜ r ≡ spec.plainMean (cells (now (values .entry))) (length (now (values .entry))) ⌝ }
 {
     lists::sum_of(values) / lists::count_as_f64(values.len())
@@ -52,7 +55,8 @@ pub fn mean_of_value(values: &[f64]) -> f64
 pub fn mean_of(values: &[f64]) -> Average
     ensures { λ r. ⌜ averagedOf r ≡ spec.meanOf (cells (now (values .entry))) (length (now (values .entry))) ⌝ }
 {
-    if 65536 < values.len() {
+    let n = values.len();
+    if 65536 < n {
         return Average::TooMany;
     }
     Average::Value(mean_of_value(values))

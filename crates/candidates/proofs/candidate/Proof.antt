@@ -37,10 +37,14 @@ scores-in-requires c κs =
     (round-kept (a .m) (c .before .before .before .before .before .before .before .before .before .before .labels-in .last .0) (a .area .now) (c .before .before .before .before .before .before .before .before .before .before .labels-in .ensures .1) (c .before .before .before .before .before .before .before .before .before .before .labels-in .kept .0) (p .0), v .1, p .3, p .1 .names, v .2)
 
 tstat-value-requires : tie.Need-tstat-value-requires
-tstat-value-requires c κs = tt
+tstat-value-requires c κs =
+    let p = c .before .before .before .before .before .before .before .before .before .before .before .before .before .before .before .before .before .before .before .before .before .pre in
+    omega (arith, c .before .before .before .scores-in .kept .1 .1 .1 .1 .0, p .3, p .0 .held .few)
 
 mean-of-value-requires : tie.Need-mean-of-value-requires
-mean-of-value-requires c κs = tt
+mean-of-value-requires c κs =
+    let p = c .before .before .before .before .before .before .before .before .before .before .before .before .before .before .before .before .before .before .before .before .before .before .before .pre in
+    omega (arith, c .before .before .before .before .before .scores-in .kept .1 .1 .1 .1 .0, p .3, p .0 .held .few)
 
 same-length : tie.Need-same-length
 same-length c = search needs

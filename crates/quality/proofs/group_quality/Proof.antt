@@ -4,7 +4,7 @@ use native.Mathlib.Omega.{arith}
 use lib.ListN.{length}
 use lib.Seq.{length-take-le}
 use borrow.Author.Needs.{needs}
-use Rattle.quality.proofs.Gathered.{gathered-fits, gathered-long, gathered-quality}
+use Rattle.quality.proofs.Gathered.{gathered-few, gathered-fits, gathered-long, gathered-quality}
 use Rattle.quality.proofs.group_quality.Statement.{statement}
 use Rattle.quality.proofs.group_quality.Tie as tie
 
@@ -31,7 +31,7 @@ slice-aggregate-tstat-value : tie.Need-slice-aggregate-tstat-value
 slice-aggregate-tstat-value c = gathered-long (c .before .before .before .before .before .before .before .args .scores .now) (c .before .before .before .before .before .before .before .args .members .now) _ (c .before .before .gather .ensures)
 
 tstat-value-requires : tie.Need-tstat-value-requires
-tstat-value-requires c κs = search needs
+tstat-value-requires c κs = gathered-few (c .before .before .before .before .before .before .before .args .scores .now) (c .before .before .before .before .before .before .before .args .members .now) _ (c .before .before .gather .ensures) (omega (arith, c .before .before .before .before .before .before .before .pre .0))
 
 returns : tie.Need-returns
 returns c = gathered-quality (c .before .before .before .before .before .before .before .before .args .scores .now) (c .before .before .before .before .before .before .before .before .args .members .now) _ (c .before .before .before .gather .ensures) (c .tstat-value .ensures)

@@ -20,7 +20,7 @@ abbrev μ-loop : tie.MeasureT-loop
 μ-loop qs limit n count₀ g₀ count g = n - g
 
 average-requires : tie.Need-average-requires Inv-loop μ-loop
-average-requires c κs = tt
+average-requires c κs = c .before .pre
 
 loop-holds : tie.Need-loop-holds Inv-loop μ-loop
 unfolding foldIf

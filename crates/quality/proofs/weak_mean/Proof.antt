@@ -19,7 +19,7 @@ abbrev μ-loop : tie.MeasureT-loop
 μ-loop qs limit n sum₀ g₀ sum g = n - g
 
 average-requires : tie.Need-average-requires Inv-loop μ-loop
-average-requires c κs = tt
+average-requires c κs = c .before .pre
 
 loop-holds : tie.Need-loop-holds Inv-loop μ-loop
 unfolding foldIf ofBits
@@ -50,7 +50,7 @@ loop-again c =
     (refl, c .before .before .before .loop .inv .1, omega arith, more)
 
 weak-count-requires : tie.Need-weak-count-requires Inv-loop μ-loop
-weak-count-requires c κs = tt
+weak-count-requires c κs = omega arith
 
 count-as-f64-requires : tie.Need-count-as-f64-requires Inv-loop μ-loop
 count-as-f64-requires c κs = tt

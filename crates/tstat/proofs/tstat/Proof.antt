@@ -1,15 +1,18 @@
+use Prim.Native.Nat.{_<_}
+use native.Mathlib.Omega.{arith}
+use lib.ListN.{length}
 use borrow.Author.Tests.{le-ltb, lt-ltb}
 use borrow.Author.Needs.{needs}
-use Rattle.stats.specs.Average.{averaged}
+use Rattle.stats.specs.Average.{averaged, mostValues}
 use Rattle.tstat.proofs.tstat.Statement.{statement}
 use Rattle.tstat.proofs.tstat.Tie as tie
 
 returns : tie.Need-returns
 unfolding averaged
-returns c = rw (lt-ltb _ _ (c .if1 .taken))
+returns c = let many : mostValues < length (c .before .before .args .values .now) = omega (arith, c .if1 .taken) in rw (lt-ltb _ _ many)
 
 tstat-value-requires : tie.Need-tstat-value-requires
-tstat-value-requires c κs = search needs
+tstat-value-requires c κs = omega arith
 
 returns-2 : tie.Need-returns-2
 unfolding averaged
