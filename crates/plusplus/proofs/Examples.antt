@@ -1,4 +1,5 @@
--- Seedings of two names at the edges, worked out by the definition.
+-- Seedings of two names at the edges, worked out by the definition. These are laws computed in this crate; the starred examples stand in the
+-- one table, crates/test_examples/specs/Starred.antt.
 use mathlib.Core.Path.{_≡_, refl}
 use mathlib.Core.Bool.{false}
 use mathlib.Core.List.{List, [], _∷_}

@@ -8,10 +8,10 @@ use Rattle.sqrt.specs.Root.{root}
 use Rattle.stats.specs.Average.{constant, exactMean, varianceAbout, varianceOf, averaged}
 use Rattle.tstat.specs.Tstat.{ratio, tstatOf}
 use Rattle.silhouette_scores.specs.Scores.{least, scoreOf, scoreFrom}
-use Rattle.silhouette.specs.Leaf.{scoreAt}
+use Rattle.silhouette.specs.Leaf.{scoreAt, silhouettesOf}
 use Rattle.draws.specs.Counts.{seedingsOf, countOf}
-use Rattle.test_examples.specs.Starred.{table, AllHold, answer, given}
+use Rattle.test_examples.specs.Starred.{table, AllHold, answer, given, scored}
 
 pub examples-hold : AllHold table
-unfolding AllHold answer given listed firstTo firstFrom when unless refusal sumTo allTo foldIf root constant exactMean varianceAbout varianceOf averaged ratio tstatOf least scoreOf scoreFrom scoreAt seedingsOf countOf ofBits toBits ofInt add sub mul div lt le eq isNan
+unfolding AllHold answer given scored listed firstTo firstFrom when unless refusal sumTo allTo foldIf root constant exactMean varianceAbout varianceOf averaged ratio tstatOf least scoreOf scoreFrom scoreAt silhouettesOf seedingsOf countOf ofBits toBits ofInt add sub mul div lt le eq isNan
 examples-hold = (refl, (refl, (refl, (refl, (refl, (refl, (refl, (refl, (refl, (refl, (refl, (refl, (refl, (refl, (refl, (refl, (refl, tt)))))))))))))))))

@@ -3,16 +3,16 @@ use Prim.Native.Nat.{ℕ}
 use mathlib.Core.Path.{_≡_}
 use mathlib.Core.Bool.{true, false}
 use mathlib.Core.List.{List, [], _∷_}
-use lib.ListN.{length}
+use lib.ListN.{length, replicate}
 use lib.IntN.{pos, negsuc}
 use lib.Ieee.{Float, inf, fin}
-use Rattle.lists.specs.Lists.{listed, cells, firstFrom}
-use Rattle.lists.specs.Sums.{counted}
+use Rattle.lists.specs.Lists.{cells}
+use Rattle.lists.specs.Sums.{counted, zero64}
 use Rattle.sqrt.specs.Root.{root}
 use Rattle.stats.specs.Average as stats
 use Rattle.tstat.specs.Tstat as tstat
-use Rattle.refusals.specs.Table.{refusal}
-use Rattle.silhouette.specs.Leaf.{scoreAt}
+use Rattle.refusals.specs.Table.{Worked, workDoubles}
+use Rattle.silhouette.specs.Leaf.{silhouettesOf}
 use Rattle.draws.specs.Counts.{countOf}
 use Rattle.choice.specs.Choice.{chosen}
 
@@ -38,14 +38,18 @@ valued q xs = record { number = q; values = xs; counts = [] }
 unfoldable pub given : stats.Averaged → Answered
 given a = valued (a .number) (a .values)
 
+-- what the leaf of the scores answers, and leaves in the list of scores
+unfoldable pub scored : Worked → Answered
+scored w = valued (w .answer .number) (w .out)
+
 unfoldable pub answer : Question → Answered
 answer (the-root x) = valued 0 (root x ∷ [])
 answer (the-mean xs) = given (stats.mean (cells xs) (length xs))
 answer (the-variance xs ddof) = given (stats.variance (cells xs) (length xs) ddof)
 answer (the-tstat xs) = given (tstat.tstat (cells xs) (length xs))
+-- the list of scores and the one to work in have the lengths that the leaf asks for, and hold zeros
 answer (the-scores pairs labels) =
-    valued (refusal (length pairs) (length labels) (length labels) true (firstFrom (length labels) labels) (length labels) .number)
-    (listed (scoreAt pairs (length labels) labels) (length labels))
+    scored (silhouettesOf pairs (length labels) labels (replicate (length labels) zero64) (replicate (workDoubles (length labels)) zero64))
 answer (the-draws m) = record { number = 0; values = []; counts = countOf m ∷ [] }
 -- the mean t-stat of the new list, then that of the old one; the old list is 0, the new one 1
 answer (the-choice newMean oldMean) = record { number = 0; values = []; counts = chosen newMean oldMean (0 ∷ []) (1 ∷ []) }
@@ -54,19 +58,16 @@ pub record Example : Type 0 where
   pub asked : Question
   pub expected : Answered
 
--- m * 2 ^ -(e + 1), and whole numbers
+-- m * 2 ^ -(e + 1)
 abbrev pub scaled : ℕ → ℕ → Float
 scaled m e = fin false m (negsuc e)
-
-abbrev pub whole : ℕ → Float
-whole n = counted n
 
 -- the answer that an average gives where there is none
 abbrev pub nothing : Answered
 nothing = valued 0 []
 
-abbrev pub one : Float → Answered
-one x = valued 0 (x ∷ [])
+abbrev pub single : Float → Answered
+single x = valued 0 (x ∷ [])
 
 -- a whole number
 abbrev pub count : ℕ → Answered
@@ -81,23 +82,23 @@ half = scaled 1 0
 abbrev pub table : List Example
 table =
     -- the root of 0.25 is 0.5, of 4 is 2, of -0 is -0, of 2 ^ -1074 is 2 ^ -537
-    (record { asked = the-root quarter; expected = one half })
-    ∷ (record { asked = the-root (fin false 1 (pos 2)); expected = one (fin false 1 (pos 1)) })
-    ∷ (record { asked = the-root (fin true 0 (pos 0)); expected = one (fin true 0 (pos 0)) })
-    ∷ (record { asked = the-root (scaled 1 1073); expected = one (scaled 1 536) })
+    (record { asked = the-root quarter; expected = single half })
+    ∷ (record { asked = the-root (fin false 1 (pos 2)); expected = single (fin false 1 (pos 1)) })
+    ∷ (record { asked = the-root (fin true 0 (pos 0)); expected = single (fin true 0 (pos 0)) })
+    ∷ (record { asked = the-root (scaled 1 1073); expected = single (scaled 1 536) })
     -- the mean of 1, 2, 6 is 3; of nothing there is none
-    ∷ (record { asked = the-mean (whole 1 ∷ whole 2 ∷ whole 6 ∷ []); expected = one (whole 3) })
+    ∷ (record { asked = the-mean (counted 1 ∷ counted 2 ∷ counted 6 ∷ []); expected = single (counted 3) })
     ∷ (record { asked = the-mean []; expected = nothing })
     -- the variance of 2, 4, 4, 4, 5, 5, 7, 9 with ddof 0 is 4; of one value with ddof 1 there is none
-    ∷ (record { asked = the-variance (whole 2 ∷ whole 4 ∷ whole 4 ∷ whole 4 ∷ whole 5 ∷ whole 5 ∷ whole 7 ∷ whole 9 ∷ []) 0; expected = one (whole 4) })
-    ∷ (record { asked = the-variance (whole 1 ∷ []) 1; expected = nothing })
+    ∷ (record { asked = the-variance (counted 2 ∷ counted 4 ∷ counted 4 ∷ counted 4 ∷ counted 5 ∷ counted 5 ∷ counted 7 ∷ counted 9 ∷ []) 0; expected = single (counted 4) })
+    ∷ (record { asked = the-variance (counted 1 ∷ []) 1; expected = nothing })
     -- the t-stat of 0.5, 0.5 is +infinity, of -0.5, -0.5 is 0
-    ∷ (record { asked = the-tstat (half ∷ half ∷ []); expected = one (inf false) })
-    ∷ (record { asked = the-tstat (fin true 1 (negsuc 0) ∷ fin true 1 (negsuc 0) ∷ []); expected = one (whole 0) })
+    ∷ (record { asked = the-tstat (half ∷ half ∷ []); expected = single (inf false) })
+    ∷ (record { asked = the-tstat (fin true 1 (negsuc 0) ∷ fin true 1 (negsuc 0) ∷ []); expected = single (counted 0) })
     -- pair distances 1 (0-1), 2 (0-2), 4 (1-2) with labels 0, 0, 1: scores 0.5, 0.75, 0
     ∷ (record {
-      asked = the-scores (whole 0 ∷ whole 1 ∷ whole 2 ∷ whole 1 ∷ whole 0 ∷ whole 4 ∷ whole 2 ∷ whole 4 ∷ whole 0 ∷ []) (0 ∷ 0 ∷ 1 ∷ []);
-      expected = valued 0 (half ∷ scaled 3 1 ∷ whole 0 ∷ []);
+      asked = the-scores (counted 0 ∷ counted 1 ∷ counted 2 ∷ counted 1 ∷ counted 0 ∷ counted 4 ∷ counted 2 ∷ counted 4 ∷ counted 0 ∷ []) (0 ∷ 0 ∷ 1 ∷ []);
+      expected = valued 0 (half ∷ scaled 3 1 ∷ counted 0 ∷ []);
     })
     -- the draws of a round, for one repeat: 3 for 2 names, 3 for 3, 10 for 4, 208 for 12
     ∷ (record { asked = the-draws 2; expected = count 3 })

@@ -1,4 +1,4 @@
--- Two texts, computed.
+-- Three texts. These are laws computed in this crate; the starred examples stand in the one table, crates/test_examples/specs/Starred.antt.
 use mathlib.Core.Path.{_≡_, refl}
 use mathlib.Core.List.{[], _∷_}
 use lib.Ieee.{toBits}

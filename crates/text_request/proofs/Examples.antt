@@ -1,4 +1,5 @@
--- A request of two names, computed. Assumes nothing.
+-- A request of two names, computed. These are laws computed in this crate; the starred examples stand in the one table,
+-- crates/test_examples/specs/Starred.antt. Assumes nothing.
 use mathlib.Core.Path.{_≡_, refl}
 use mathlib.Core.List.{List, [], _∷_}
 use Prim.Native.Nat.{ℕ}
