@@ -8,10 +8,10 @@ use lib.ListN.{length, getD, take, drop, length-append, length-drop, drop-of-len
 use lib.Seq.{take-all, take-at, getD-take, length-take-le}
 use lib.Ieee.{Float, nan}
 use Rattle.sqrt.specs.Root.{root}
-use Rattle.lists.specs.Lists.{listed, cells, cellAt, part, put, row, flat, grid}
+use Rattle.lists.specs.Lists.{listed, cells, cellAt, part, put, row, flat, matrixOf}
 use Rattle.lists.proofs.Listed.{listed-of, listed-same, getD-listed, length-listed, listed-length}
 use Rattle.lists.proofs.Rows.{row-end}
-use Rattle.lists.proofs.Grid.{cell-below, row-cell, row-long, flat-at, grid-same, listed-append, in-grid}
+use Rattle.lists.proofs.Matrix.{cell-below, row-cell, row-long, flat-at, matrix-same, listed-append, in-matrix}
 use Rattle.lists.proofs.Parts.{front-less, part-front, put-take, put-length, put-part, getD-part, getD-front}
 use Rattle.lists.proofs.Areas.{put-next, areaTo, area-more, area-front, area-rows, area-length}
 use Rattle.distance_columns.specs.Pair.{squaredAt, pairAt}
@@ -31,7 +31,7 @@ module _ (a d : List Float) (m : ℕ) (l : length a ≡ length d) where
       let f = front-less (2 * (m * m)) (m * m) a d (omega arith) e in
       record {
         four = area-kept (t .four);
-        across = part-front (2 * (m * m)) (m * m) (m * m) a d (omega arith) e ∙ t .across ∙ ap (λ (x : List Float). grid (λ i j. cellAt x m j i) m) (sym f);
+        across = part-front (2 * (m * m)) (m * m) (m * m) a d (omega arith) e ∙ t .across ∙ ap (λ (x : List Float). matrixOf (λ i j. cellAt x m j i) m) (sym f);
       }
 
   pub summed-kept : take (3 * (m * m)) a ≡ take (3 * (m * m)) d → Summed d m → Summed a m
@@ -39,7 +39,7 @@ module _ (a d : List Float) (m : ℕ) (l : length a ≡ length d) where
       let f = front-less (3 * (m * m)) (m * m) a d (omega arith) e in
       record {
         four = area-kept (s .four);
-        squares = part-front (3 * (m * m)) (2 * (m * m)) (m * m) a d (omega arith) e ∙ s .squares ∙ ap (λ (x : List Float). grid (squaredAt (cellAt x m) m) m) (sym f);
+        squares = part-front (3 * (m * m)) (2 * (m * m)) (m * m) a d (omega arith) e ∙ s .squares ∙ ap (λ (x : List Float). matrixOf (squaredAt (cellAt x m) m) m) (sym f);
       }
 
 -- the same in a loop that writes an area row by row
@@ -96,7 +96,7 @@ module _ (area : List Float) (m i : ℕ) (t : Turned area m) (h : i < m) {own : 
   own-length : length own ≡ m
   own-length = listed-length (pointsAt area m i) m own-row
 
-  second : part (m * m) (m * m + m * m - m * m) area ≡ grid (λ a b. pointsAt area m b a) m
+  second : part (m * m) (m * m + m * m - m * m) area ≡ matrixOf (λ a b. pointsAt area m b a) m
   second = let k : m * m + m * m - m * m ≡ m * m = omega arith in rw k (t .across)
 
   pub columns : {sums : List Float} → length sums ≡ m - i → Tail own (part (m * m) (m * m + m * m - m * m) area) i sums
@@ -163,7 +163,7 @@ module _ (area : List Float) (m i : ℕ) (r : Rooted area m i) where
       let c = cell-below i (i + j) m (r .within) n in
       ap root
       (getD-front (3 * (m * m) + i * m) (2 * (m * m) + i * m + i + j) a area nan (omega (arith, c)) front ∙ ap (cells area) s
-      ∙ sym (getD-part (2 * (m * m)) (m * m) area (i * m + (i + j)) nan c) ∙ in-grid (squaredAt (pointsAt area m) m) m i (i + j) nan (r .summed .squares) (r .within) n))
+      ∙ sym (getD-part (2 * (m * m)) (m * m) area (i * m + (i + j)) nan c) ∙ in-matrix (squaredAt (pointsAt area m) m) m i (i + j) nan (r .summed .squares) (r .within) n))
 
   pub pairs-above : (j : ℕ) → j < i → 3 * (m * m) + i + j * m < 3 * (m * m) + i * m
   pairs-above = above (pairAt (pointsAt area m) m) (pair-flip (pointsAt area m) m) (3 * (m * m)) m i area (r .within) rooted-fits (r .pairs)
@@ -198,18 +198,18 @@ pub pairs-same : (x y : ℕ → ℕ → Float) (m : ℕ) → ((a b : ℕ) → a 
 unfolding pairsArea
 pairs-same x y m e =
     rw (
-      grid-same nan x y m e,
-      grid-same nan (λ i j. x j i) (λ i j. y j i) m (λ i j h l. e j i l h),
-      grid-same nan (squaredAt x m) (squaredAt y m) m (λ i j h l. squared-same x y m i j e h l),
-      grid-same nan (pairAt x m) (pairAt y m) m (λ i j h l. pair-same x y m i j e h l),
+      matrix-same nan x y m e,
+      matrix-same nan (λ i j. x j i) (λ i j. y j i) m (λ i j h l. e j i l h),
+      matrix-same nan (squaredAt x m) (squaredAt y m) m (λ i j h l. squared-same x y m i j e h l),
+      matrix-same nan (pairAt x m) (pairAt y m) m (λ i j h l. pair-same x y m i j e h l),
     )
 
 -- the areas depend on the first m * m cells alone
 pub pairs-front : (a b : List Float) (m : ℕ) → take (m * m) a ≡ take (m * m) b → pairsArea (cellAt a m) m ≡ pairsArea (cellAt b m) m
 pairs-front a b m e = pairs-same (cellAt a m) (cellAt b m) m (λ i j h l. getD-front (m * m) (i * m + j) a b nan (cell-below i j m h l) e)
 
-pub pairs-grid : (x : ℕ → ℕ → Float) (m : ℕ) {a : List Float} → a ≡ grid x m → pairsArea (cellAt a m) m ≡ pairsArea x m
-pairs-grid x m {a} e = pairs-same (cellAt a m) x m (λ i j h l. in-grid x m i j nan e h l)
+pub pairs-matrix : (x : ℕ → ℕ → Float) (m : ℕ) {a : List Float} → a ≡ matrixOf x m → pairsArea (cellAt a m) m ≡ pairsArea x m
+pairs-matrix x m {a} e = pairs-same (cellAt a m) x m (λ i j h l. in-matrix x m i j nan e h l)
 
 -- a list that begins with the points
 pub pairs-begin : (p rest : List Float) (m : ℕ) → length p ≡ m * m → pairsArea (cellAt (p ++ rest) m) m ≡ pairsArea (cellAt p m) m
@@ -217,64 +217,64 @@ pairs-begin p rest m l = pairs-front (p ++ rest) p m (take-at p rest (m * m) l �
 
 -- the four areas when the three steps are done
 module _ (d : List Float) (m : ℕ) (q : Area d m) where
-  module _ {a : List Float} (e : a ≡ put (m * m) (m * m) d (grid (λ i j. pointsAt d m j i) m)) where
+  module _ {a : List Float} (e : a ≡ put (m * m) (m * m) d (matrixOf (λ i j. pointsAt d m j i) m)) where
     second-fits : m * m + m * m ≤ length d
     second-fits = omega (arith, q .size)
 
-    second-length : length (grid (λ i j. pointsAt d m j i) m) ≡ m * m
+    second-length : length (matrixOf (λ i j. pointsAt d m j i) m) ≡ m * m
     second-length = length-listed (flat (λ i j. pointsAt d m j i) m) (m * m)
 
     second-front : take (m * m) a ≡ take (m * m) d
-    second-front = rw e (put-take (m * m) (m * m) d (grid (λ i j. pointsAt d m j i) m) second-fits second-length (m * m) (omega arith))
+    second-front = rw e (put-take (m * m) (m * m) d (matrixOf (λ i j. pointsAt d m j i) m) second-fits second-length (m * m) (omega arith))
 
     pub second-made : Turned a m
     second-made =
         record {
-          four = area-kept a d m (rw e (put-length (m * m) (m * m) d (grid (λ i j. pointsAt d m j i) m) second-fits second-length)) q;
+          four = area-kept a d m (rw e (put-length (m * m) (m * m) d (matrixOf (λ i j. pointsAt d m j i) m) second-fits second-length)) q;
           across =
-              rw e (put-part (m * m) (m * m) d (grid (λ i j. pointsAt d m j i) m) second-fits second-length)
-              ∙ ap (λ (x : List Float). grid (λ i j. cellAt x m j i) m) (sym second-front);
+              rw e (put-part (m * m) (m * m) d (matrixOf (λ i j. pointsAt d m j i) m) second-fits second-length)
+              ∙ ap (λ (x : List Float). matrixOf (λ i j. cellAt x m j i) m) (sym second-front);
         }
 
-    module _ {b : List Float} (f : b ≡ put (2 * (m * m)) (m * m) a (grid (squaredAt (pointsAt a m) m) m)) where
+    module _ {b : List Float} (f : b ≡ put (2 * (m * m)) (m * m) a (matrixOf (squaredAt (pointsAt a m) m) m)) where
       third-fits : 2 * (m * m) + m * m ≤ length a
       third-fits = omega (arith, second-made .four .size)
 
-      third-length : length (grid (squaredAt (pointsAt a m) m) m) ≡ m * m
+      third-length : length (matrixOf (squaredAt (pointsAt a m) m) m) ≡ m * m
       third-length = length-listed (flat (squaredAt (pointsAt a m) m) m) (m * m)
 
       third-front : take (m * m) b ≡ take (m * m) a
-      third-front = rw f (put-take (2 * (m * m)) (m * m) a (grid (squaredAt (pointsAt a m) m) m) third-fits third-length (m * m) (omega arith))
+      third-front = rw f (put-take (2 * (m * m)) (m * m) a (matrixOf (squaredAt (pointsAt a m) m) m) third-fits third-length (m * m) (omega arith))
 
       pub third-made : Summed b m
       third-made =
           record {
-            four = area-kept b a m (rw f (put-length (2 * (m * m)) (m * m) a (grid (squaredAt (pointsAt a m) m) m) third-fits third-length)) (second-made .four);
+            four = area-kept b a m (rw f (put-length (2 * (m * m)) (m * m) a (matrixOf (squaredAt (pointsAt a m) m) m) third-fits third-length)) (second-made .four);
             squares =
-                rw f (put-part (2 * (m * m)) (m * m) a (grid (squaredAt (pointsAt a m) m) m) third-fits third-length)
-                ∙ ap (λ (x : List Float). grid (squaredAt (cellAt x m) m) m) (sym third-front);
+                rw f (put-part (2 * (m * m)) (m * m) a (matrixOf (squaredAt (pointsAt a m) m) m) third-fits third-length)
+                ∙ ap (λ (x : List Float). matrixOf (squaredAt (cellAt x m) m) m) (sym third-front);
           }
 
       -- the points and their transpose stand as they were
       pub third-turned : Turned b m
       third-turned =
-          turned-kept b a m (rw f (put-length (2 * (m * m)) (m * m) a (grid (squaredAt (pointsAt a m) m) m) third-fits third-length))
-          (rw f (put-take (2 * (m * m)) (m * m) a (grid (squaredAt (pointsAt a m) m) m) third-fits third-length (2 * (m * m)) (omega arith))) second-made
+          turned-kept b a m (rw f (put-length (2 * (m * m)) (m * m) a (matrixOf (squaredAt (pointsAt a m) m) m) third-fits third-length))
+          (rw f (put-take (2 * (m * m)) (m * m) a (matrixOf (squaredAt (pointsAt a m) m) m) third-fits third-length (2 * (m * m)) (omega arith))) second-made
 
       pub points-kept : take (m * m) b ≡ take (m * m) d
       points-kept = third-front ∙ second-front
 
-      pub all-made : {c : List Float} → c ≡ put (3 * (m * m)) (m * m) b (grid (pairAt (pointsAt b m) m) m) → c ≡ pairsArea (cellAt d m) m
+      pub all-made : {c : List Float} → c ≡ put (3 * (m * m)) (m * m) b (matrixOf (pairAt (pointsAt b m) m) m) → c ≡ pairsArea (cellAt d m) m
       unfolding pairsArea
       all-made {c} g =
           let x = pointsAt d m in
-          let P = grid x m in
-          let T = grid (λ i j. x j i) m in
-          let S = grid (squaredAt x m) m in
-          let R = grid (pairAt x m) m in
+          let P = matrixOf x m in
+          let T = matrixOf (λ i j. x j i) m in
+          let S = matrixOf (squaredAt x m) m in
+          let R = matrixOf (pairAt x m) m in
           let n = m * m in
-          let s : grid (squaredAt (pointsAt a m) m) m ≡ S = ap (λ (y : List Float). grid (squaredAt (cellAt y m) m) m) second-front in
-          let r : grid (pairAt (pointsAt b m) m) m ≡ R = ap (λ (y : List Float). grid (pairAt (cellAt y m) m) m) (third-front ∙ second-front) in
+          let s : matrixOf (squaredAt (pointsAt a m) m) m ≡ S = ap (λ (y : List Float). matrixOf (squaredAt (cellAt y m) m) m) second-front in
+          let r : matrixOf (pairAt (pointsAt b m) m) m ≡ R = ap (λ (y : List Float). matrixOf (pairAt (cellAt y m) m) m) (third-front ∙ second-front) in
           let b₁ : b ≡ put n (n + n) d (T ++ S) = f ∙ rw (s, e) (put-next n n n (2 * n) d T S (omega arith) second-fits second-length) in
           let long : length (T ++ S) ≡ n + n = length-append T S ∙ rw (length-listed (flat (λ i j. x j i) m) n, length-listed (flat (squaredAt x m) m) n) in
           let c₁ : c ≡ put n (n + n + n) d ((T ++ S) ++ R) = g ∙ rw (r, b₁) (put-next n (n + n) n (3 * n) d (T ++ S) R (omega arith) (omega (arith, q .size)) long) in

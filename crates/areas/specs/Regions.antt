@@ -4,7 +4,7 @@ use mathlib.Core.Path.{_≡_}
 use mathlib.Core.List.{List}
 use lib.ListN.{length}
 use lib.Ieee.{Float}
-use Rattle.lists.specs.Lists.{part, flat, grid, listed}
+use Rattle.lists.specs.Lists.{part, flat, matrixOf, listed}
 use Rattle.distance_columns.specs.Pair.{squaredAt, pairAt}
 use Rattle.distance_columns.specs.Columns.{pointsAt}
 
@@ -17,7 +17,7 @@ pub record Area (area : List Float) (m : ℕ) : Type 0 where
 -- the same, with the transpose in the second area
 pub record Turned (area : List Float) (m : ℕ) : Type 0 where
   pub four : Area area m
-  pub across : part (m * m) (m * m) area ≡ grid (λ i j. pointsAt area m j i) m
+  pub across : part (m * m) (m * m) area ≡ matrixOf (λ i j. pointsAt area m j i) m
 
 -- the same, with the first i rows of the squared pair distances in the third area
 pub record Squaring (area : List Float) (m i : ℕ) : Type 0 where
@@ -28,7 +28,7 @@ pub record Squaring (area : List Float) (m i : ℕ) : Type 0 where
 -- the same, with all of them
 pub record Summed (area : List Float) (m : ℕ) : Type 0 where
   pub four : Area area m
-  pub squares : part (2 * (m * m)) (m * m) area ≡ grid (squaredAt (pointsAt area m) m) m
+  pub squares : part (2 * (m * m)) (m * m) area ≡ matrixOf (squaredAt (pointsAt area m) m) m
 
 -- the same, with the first i rows of the pair distances in the fourth area
 pub record Rooted (area : List Float) (m i : ℕ) : Type 0 where

@@ -4,7 +4,7 @@ ghost use mathlib.Core.Path.{_≡_};
 ghost use Prim.Native.Nat.{_<_, _≤_, _+_, _-_, _*_};
 ghost use lib.ListN.{length, take};
 ghost use Rattle.sqrt.specs.Root.{root};
-ghost use Rattle.lists.specs.Lists.{listed, cells, cellAt, put, grid};
+ghost use Rattle.lists.specs.Lists.{listed, cells, cellAt, put, matrixOf};
 ghost use Rattle.distance.specs.Distance.{Readable, distAt};
 ghost use Rattle.distance_columns.specs.Pair.{squaredAt, pairAt};
 ghost use Rattle.areas.specs.Pairs.{pairsArea};
@@ -26,7 +26,7 @@ fn root_cells(area: &mut [f64], from: usize, to: usize, count: usize)
 // The transpose of the points, row by row.
 fn transpose(area: &mut [f64], m: usize)
     requires { ⌜ Area (now area) m ⌝ }
-    ensures { λ _. ⌜ now (area .exit) ≡ put (m * m) (m * m) (now (area .entry)) (grid (λ i j. pointsAt (now (area .entry)) m j i) m) ⌝ }
+    ensures { λ _. ⌜ now (area .exit) ≡ put (m * m) (m * m) (now (area .entry)) (matrixOf (λ i j. pointsAt (now (area .entry)) m j i) m) ⌝ }
 {
     let second = m * m;
     for i in 0..m {
@@ -63,7 +63,7 @@ fn square_row(area: &mut [f64], m: usize, i: usize, sums: &mut [f64])
 // The squared pair distances, row by row, each pair worked out once.
 fn square_rows(area: &mut [f64], m: usize, sums: &mut [f64])
     requires { ⌜ Turned (now area) m × (length (now sums) ≡ m) ⌝ }
-    ensures { λ _. ⌜ now (area .exit) ≡ put (2 * (m * m)) (m * m) (now (area .entry)) (grid (squaredAt (pointsAt (now (area .entry)) m) m) m) ⌝ }
+    ensures { λ _. ⌜ now (area .exit) ≡ put (2 * (m * m)) (m * m) (now (area .entry)) (matrixOf (squaredAt (pointsAt (now (area .entry)) m) m) m) ⌝ }
 {
     for i in 0..m {
         let tail = m - i;
@@ -74,7 +74,7 @@ fn square_rows(area: &mut [f64], m: usize, sums: &mut [f64])
 // The same, with a row to work in.
 fn square_all(area: &mut [f64], m: usize)
     requires { ⌜ Turned (now area) m ⌝ }
-    ensures { λ _. ⌜ now (area .exit) ≡ put (2 * (m * m)) (m * m) (now (area .entry)) (grid (squaredAt (pointsAt (now (area .entry)) m) m) m) ⌝ }
+    ensures { λ _. ⌜ now (area .exit) ≡ put (2 * (m * m)) (m * m) (now (area .entry)) (matrixOf (squaredAt (pointsAt (now (area .entry)) m) m) m) ⌝ }
 {
     let mut sums = lists::row_buffer();
     square_rows(area, m, &mut sums[..m]);
@@ -95,7 +95,7 @@ fn pair_row(area: &mut [f64], m: usize, i: usize)
 // The pair distances, each pair rooted once.
 fn root_all(area: &mut [f64], m: usize)
     requires { ⌜ Summed (now area) m ⌝ }
-    ensures { λ _. ⌜ now (area .exit) ≡ put (3 * (m * m)) (m * m) (now (area .entry)) (grid (pairAt (pointsAt (now (area .entry)) m) m) m) ⌝ }
+    ensures { λ _. ⌜ now (area .exit) ≡ put (3 * (m * m)) (m * m) (now (area .entry)) (matrixOf (pairAt (pointsAt (now (area .entry)) m) m) m) ⌝ }
 {
     for i in 0..m {
         pair_row(area, m, i);

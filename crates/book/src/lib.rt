@@ -5,9 +5,9 @@
 ghost use mathlib.Core.Path.{_≡_};
 ghost use Prim.Native.Nat.{_<_, _*_};
 ghost use lib.ListN.{length};
-ghost use Rattle.lists.specs.Lists.{grid};
+ghost use Rattle.lists.specs.Lists.{matrixOf};
 ghost use Rattle.refusals.specs.Table.{refusalOf};
-ghost use Rattle.distance.specs.Distance.{through, distAt, Readable};
+ghost use Rattle.distance.specs.Distance.{cellThrough, distAt, Readable};
 ghost use Rattle.distance.specs.Leaves.{corrToDistanceThrough, submatrixOf};
 use refusals::Answer;
 
@@ -28,7 +28,7 @@ pub fn book_of<'a, 'b>(cells: &'a [f64], n: usize, rows: &'b [usize]) -> Book<'a
 // Its distances, row by row. Inner form.
 pub fn fill_distances<'a, 'b>(b: Book<'a, 'b>, out: &mut [f64])
     requires { ⌜ Readable (now (b .cells)) (b .n) (now (b .rows)) × (0 < length (now (b .rows))) × (length (now out) ≡ length (now (b .rows)) * length (now (b .rows))) ⌝ }
-    ensures { λ _. ⌜ now (out .exit) ≡ grid (distAt (now (b .entry .cells)) (b .entry .n) (now (b .entry .rows))) (length (now (b .entry .rows))) ⌝ }
+    ensures { λ _. ⌜ now (out .exit) ≡ matrixOf (distAt (now (b .entry .cells)) (b .entry .n) (now (b .entry .rows))) (length (now (b .entry .rows))) ⌝ }
 {
     return distance::fill_distances(b.cells, b.n, b.rows, out)
 }
@@ -36,7 +36,7 @@ pub fn fill_distances<'a, 'b>(b: Book<'a, 'b>, out: &mut [f64])
 // Its cells, row by row. Inner form.
 pub fn fill_cells<'a, 'b>(b: Book<'a, 'b>, out: &mut [f64])
     requires { ⌜ Readable (now (b .cells)) (b .n) (now (b .rows)) × (0 < length (now (b .rows))) × (length (now out) ≡ length (now (b .rows)) * length (now (b .rows))) ⌝ }
-    ensures { λ _. ⌜ now (out .exit) ≡ grid (through (now (b .entry .cells)) (b .entry .n) (now (b .entry .rows))) (length (now (b .entry .rows))) ⌝ }
+    ensures { λ _. ⌜ now (out .exit) ≡ matrixOf (cellThrough (now (b .entry .cells)) (b .entry .n) (now (b .entry .rows))) (length (now (b .entry .rows))) ⌝ }
 {
     return distance::fill_cells(b.cells, b.n, b.rows, out)
 }
@@ -58,7 +58,7 @@ pub fn submatrix<'a, 'b>(b: Book<'a, 'b>, out: &mut [f64]) -> Answer
 // The distances of the book that the rows make, of plain lists: what a round reads. Inner form.
 pub fn distances_through(cells: &[f64], n: usize, rows: &[usize], out: &mut [f64])
     requires { ⌜ Readable (now cells) n (now rows) × (0 < length (now rows)) × (length (now out) ≡ length (now rows) * length (now rows)) ⌝ }
-    ensures { λ _. ⌜ now (out .exit) ≡ grid (distAt (now (cells .entry)) n (now (rows .entry))) (length (now (rows .entry))) ⌝ }
+    ensures { λ _. ⌜ now (out .exit) ≡ matrixOf (distAt (now (cells .entry)) n (now (rows .entry))) (length (now (rows .entry))) ⌝ }
 {
     return fill_distances(book_of(cells, n, rows), out)
 }
@@ -66,7 +66,7 @@ pub fn distances_through(cells: &[f64], n: usize, rows: &[usize], out: &mut [f64
 // Its cells: the ordered matrix, where the rows are the order. Inner form.
 pub fn cells_through(cells: &[f64], n: usize, rows: &[usize], out: &mut [f64])
     requires { ⌜ Readable (now cells) n (now rows) × (0 < length (now rows)) × (length (now out) ≡ length (now rows) * length (now rows)) ⌝ }
-    ensures { λ _. ⌜ now (out .exit) ≡ grid (through (now (cells .entry)) n (now (rows .entry))) (length (now (rows .entry))) ⌝ }
+    ensures { λ _. ⌜ now (out .exit) ≡ matrixOf (cellThrough (now (cells .entry)) n (now (rows .entry))) (length (now (rows .entry))) ⌝ }
 {
     return fill_cells(book_of(cells, n, rows), out)
 }

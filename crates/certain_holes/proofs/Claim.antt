@@ -6,7 +6,7 @@ use mathlib.Core.List.{List}
 use lib.ListN.{length}
 use lib.Ieee.{Float}
 use Rattle.lists.specs.Lists.{cells}
-use Rattle.distance.specs.Distance.{through, distAt}
+use Rattle.distance.specs.Distance.{cellThrough, distAt}
 use Rattle.silhouette_areas.specs.Scoring.{scoresOf}
 use Rattle.certain_ranges.proofs.Ratios.{bounded-one}
 use Rattle.certain_holes.specs.Holes.{Hole}
@@ -25,7 +25,7 @@ some-hole book n rows label g = ⊎-elim
   where
     each : (c : ℕ) → ((label c ≡ g) × HasHole book n rows c) ⊎ (label c ≡ g → NoHole book n rows c)
     each c = ⊎-elim
-        (λ (e : label c ≡ g). ⊎-elim (λ (h : HasHole book n rows c). inl (e, h)) (λ (w : NoHole book n rows c). inr (λ q. w)) (hole-or-whole (through book n rows c) (length rows)))
+        (λ (e : label c ≡ g). ⊎-elim (λ (h : HasHole book n rows c). inl (e, h)) (λ (w : NoHole book n rows c). inr (λ q. w)) (hole-or-whole (cellThrough book n rows c) (length rows)))
         (λ (d : label c ≡ g → ⊥). inr (λ e. absurd (d e)))
         (number-or-not (label c) g)
 

@@ -11,7 +11,7 @@ use lib.Dec.{ltb}
 use lib.Ieee.{Float, nan, inf, fin, binary64, up, down, round, sum, add, neg, sub, div, lt}
 use lib.Ieee.Fits.{down-pos}
 use Rattle.lists.specs.Sums.{one64}
-use Rattle.distance.specs.Distance.{minusOne64, two64, clamped, distanceOf, through, distAt}
+use Rattle.distance.specs.Distance.{minusOne64, two64, clamped, distanceOf, cellThrough, distAt}
 use Rattle.certain_ranges.specs.Ranges.{Bounded, UpTo, OrNan}
 use Rattle.certain_ranges.proofs.Rounding.{round-whole}
 use Rattle.certain_ranges.proofs.Operations.{sized-upto, upto-sized, sized-over, upto-root, upto-bounded, bounded-number, sub-nan, nan-div, nan-root}
@@ -88,14 +88,14 @@ distance-range c = ⊎-elim (λ e. inl (distance-nan c e)) (λ n. inr (distance-
 
 pub book-distances : (book : List Float) (n : ℕ) (rows : List ℕ) → Distances (distAt book n rows)
 unfolding distAt
-book-distances book n rows i c = distance-range (through book n rows i c)
+book-distances book n rows i c = distance-range (cellThrough book n rows i c)
 
 -- an item of a book has a hole where it has a NaN among its cells, and nowhere else
-pub book-hole : (book : List Float) (n : ℕ) (rows : List ℕ) (m i : ℕ) → Hole (through book n rows i) m → Hole (distAt book n rows i) m
+pub book-hole : (book : List Float) (n : ℕ) (rows : List ℕ) (m i : ℕ) → Hole (cellThrough book n rows i) m → Hole (distAt book n rows i) m
 unfolding distAt
-book-hole book n rows m i h = (h .0, h .1, distance-nan (through book n rows i (h .0)) (h .2))
+book-hole book n rows m i h = (h .0, h .1, distance-nan (cellThrough book n rows i (h .0)) (h .2))
 
-pub book-whole : (book : List Float) (n : ℕ) (rows : List ℕ) (m i : ℕ) → Whole (through book n rows i) m → Whole (distAt book n rows i) m
+pub book-whole : (book : List Float) (n : ℕ) (rows : List ℕ) (m i : ℕ) → Whole (cellThrough book n rows i) m → Whole (distAt book n rows i) m
 unfolding distAt
 book-whole book n rows m i h c l e =
-    bounded-number 1 (distanceOf (through book n rows i c)) (upto-bounded 1 (distanceOf (through book n rows i c)) (distance-number (through book n rows i c) (h c l))) e
+    bounded-number 1 (distanceOf (cellThrough book n rows i c)) (upto-bounded 1 (distanceOf (cellThrough book n rows i c)) (distance-number (cellThrough book n rows i c) (h c l))) e

@@ -17,7 +17,7 @@ use Rattle.distance_columns.specs.Pair.{squared}
 use Rattle.lloyd_nearest.specs.declared.Best.{Best}
 use Rattle.lloyd_nearest.specs.Nearest.{nearer, nearestTo}
 use Rattle.lloyd_mean.specs.Groups.{mean}
-use Rattle.lloyd_pass.specs.Passes.{takesItem, moved, nearest, labelsOf, distsOf, centroidsAt, labelsAt, convergesAt, passes, lloydLabels}
+use Rattle.lloyd_pass.specs.Passes.{takesItem, moved, nearestCentroid, labelsOf, distsOf, centroidsAt, labelsAt, convergesAt, passes, lloydLabels}
 use Rattle.lloyd_pass.proofs.Below.{some-passes}
 use Rattle.certain_ranges.specs.Ranges.{Bounded, UpTo, OrNan}
 use Rattle.certain_ranges.proofs.Operations.{upto-bounded, bounded-more, bounded-mul, upto-over, bounded-sub, upto-square, nan-mul, nan-lt, number-of, below-inf}
@@ -116,7 +116,7 @@ module _ (x : ℕ → ℕ → Float) (m : ℕ) (D : Distances x) (M : m ≤ 256)
 
   -- ---- the labels of one pass
   -- an item with a hole
-  hole-label : (k : ℕ) (centroid : ℕ → ℕ → Float) (i : ℕ) → Hole (x i) m → nearest x m k centroid i .at ≡ 0
+  hole-label : (k : ℕ) (centroid : ℕ → ℕ → Float) (i : ℕ) → Hole (x i) m → nearestCentroid x m k centroid i .at ≡ 0
   hole-label k centroid i H = ap (λ (b : Best). b .at) (nearest-none (λ l. squared (x i) (centroid l) m) k (λ l g. squared-nan (x i) (centroid l) m H))
 
   -- an item without one, and a centroid without one
@@ -141,11 +141,11 @@ module _ (x : ℕ → ℕ → Float) (m : ℕ) (D : Distances x) (M : m ≤ 256)
       (λ (p : Whole (x i) m × (g i ≡ 0 → ⊥)). inr (p .0, λ z. p .1 (sym (e i l) ∙ z)))
       (h i l))
 
-  label-at : (k : ℕ) (centroid : ℕ → ℕ → Float) (i : ℕ) → i < m → numbers (labelsOf x m k centroid) i ≡ nearest x m k centroid i .at
-  label-at k centroid i h = getD-listed (λ j. nearest x m k centroid j .at) m i 0 h
+  label-at : (k : ℕ) (centroid : ℕ → ℕ → Float) (i : ℕ) → i < m → numbers (labelsOf x m k centroid) i ≡ nearestCentroid x m k centroid i .at
+  label-at k centroid i h = getD-listed (λ j. nearestCentroid x m k centroid j .at) m i 0 h
 
   pass-split : (k : ℕ) (centroid : ℕ → ℕ → Float) → Hole (centroid 0) m → ((l : ℕ) → Held (centroid l)) → Split (numbers (labelsOf x m k centroid))
-  pass-split k centroid H B = split-same (numbers (labelsOf x m k centroid)) (λ i. nearest x m k centroid i .at) (label-at k centroid)
+  pass-split k centroid H B = split-same (numbers (labelsOf x m k centroid)) (λ i. nearestCentroid x m k centroid i .at) (label-at k centroid)
       (⊎-elim
       (λ (s : (l : ℕ) × (l < k) × Whole (centroid l) m). inr (λ i h. ⊎-elim
       (λ (I : Hole (x i) m). inl (I, hole-label k centroid i I))
@@ -158,7 +158,7 @@ module _ (x : ℕ → ℕ → Float) (m : ℕ) (D : Distances x) (M : m ≤ 256)
       (λ (G : (l : ℕ) → l < k → Hole (centroid l) m). inl (λ i h. ap (λ (b : Best). b .at) (nearest-none (λ l. squared (x i) (centroid l) m) k (λ l g. squared-nan′ (x i) (centroid l) m (G l g)))))
       (somewhere (λ l. Whole (centroid l) m) (λ l. Hole (centroid l) m) (λ l. ⊎-elim (λ h. inr h) (λ w. inl w) (hole-or-whole (centroid l) m)) k))
     where
-      other : (i : ℕ) → (nearest x m k centroid i ≡ none) ⊎ (nearest x m k centroid i .at ≡ 0 → ⊥) → (nearest x m k centroid i ≡ none → ⊥) → nearest x m k centroid i .at ≡ 0 → ⊥
+      other : (i : ℕ) → (nearestCentroid x m k centroid i ≡ none) ⊎ (nearestCentroid x m k centroid i .at ≡ 0 → ⊥) → (nearestCentroid x m k centroid i ≡ none → ⊥) → nearestCentroid x m k centroid i .at ≡ 0 → ⊥
       other i (inl e) n = absurd (n e)
       other i (inr h) n = h
 

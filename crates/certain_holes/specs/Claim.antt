@@ -8,7 +8,7 @@ use lib.ListN.{length}
 use lib.Ieee.{Float, nan, le}
 use Rattle.lists.specs.Lists.{cells}
 use Rattle.lists.specs.Sums.{zero64, one64}
-use Rattle.distance.specs.Distance.{minusOne64, through, distAt}
+use Rattle.distance.specs.Distance.{minusOne64, cellThrough, distAt}
 use Rattle.silhouette_areas.specs.Scoring.{scoresOf}
 use Rattle.certain_holes.specs.Holes.{Hole, Whole}
 
@@ -18,10 +18,10 @@ FromTo s = (le minusOne64 s ≡ true) × (le s one64 ≡ true)
 
 -- name i has a hole: a NaN among the cells of its row in the book that the rows make; and it has none
 abbrev pub HasHole : List Float → ℕ → List ℕ → ℕ → Type 0
-HasHole book n rows i = Hole (through book n rows i) (length rows)
+HasHole book n rows i = Hole (cellThrough book n rows i) (length rows)
 
 abbrev pub NoHole : List Float → ℕ → List ℕ → ℕ → Type 0
-NoHole book n rows i = Whole (through book n rows i) (length rows)
+NoHole book n rows i = Whole (cellThrough book n rows i) (length rows)
 
 -- another group than that of name i, with a label below the number of names, none of whose names has a hole. b is sought among such labels alone
 abbrev pub GroupWithoutHole : List Float → ℕ → List ℕ → (ℕ → ℕ) → ℕ → Type 0

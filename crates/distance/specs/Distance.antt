@@ -25,12 +25,12 @@ unfoldable pub distanceOf : Float → Float
 distanceOf c = root (div binary64 (sub binary64 one64 (clamped c)) two64)
 
 -- row i, column j of the book that the rows make out of a book of n columns: a cell of the whole, which stays where it is
-unfoldable pub through : List Float → ℕ → List ℕ → ℕ → ℕ → Float
-through book n rows i j = cellAt book n (numbers rows i) (numbers rows j)
+unfoldable pub cellThrough : List Float → ℕ → List ℕ → ℕ → ℕ → Float
+cellThrough book n rows i j = cellAt book n (numbers rows i) (numbers rows j)
 
 -- the distance of names i and j of that book
 unfoldable pub distAt : List Float → ℕ → List ℕ → ℕ → ℕ → Float
-distAt book n rows i j = distanceOf (through book n rows i j)
+distAt book n rows i j = distanceOf (cellThrough book n rows i j)
 
 -- what a read through the rows needs: n rows of n cells, and each row number below n
 pub record Readable (book : List Float) (n : ℕ) (rows : List ℕ) : Type 0 where

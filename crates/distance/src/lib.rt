@@ -4,10 +4,10 @@ ghost use mathlib.Core.Path.{_≡_};
 ghost use Prim.Native.Nat.{_<_, _*_};
 ghost use lib.Dec.{eqb};
 ghost use lib.ListN.{length};
-ghost use Rattle.lists.specs.Lists.{cells, listed, grid, firstFrom};
+ghost use Rattle.lists.specs.Lists.{cells, listed, matrixOf, firstFrom};
 ghost use Rattle.refusals.specs.Table.{refusalOf, refusal};
 ghost use Rattle.distance.specs.Distance as spec;
-ghost use Rattle.distance.specs.Distance.{through, distAt, Readable};
+ghost use Rattle.distance.specs.Distance.{cellThrough, distAt, Readable};
 ghost use Rattle.distance.specs.Leaves as leaves;
 use refusals::Answer;
 
@@ -34,7 +34,7 @@ pub fn distance(c: f64) -> f64
 // Row i, column j of the book that the rows make. Inner form.
 pub fn cell_at(book: &[f64], n: usize, rows: &[usize], i: usize, j: usize) -> f64
     requires { ⌜ Readable (now book) n (now rows) × (i < length (now rows)) × (j < length (now rows)) ⌝ }
-    ensures { λ r. ⌜ r ≡ through (now (book .entry)) n (now (rows .entry)) i j ⌝ }
+    ensures { λ r. ⌜ r ≡ cellThrough (now (book .entry)) n (now (rows .entry)) i j ⌝ }
 {
     let r = rows[i];
     let s = rows[j];
@@ -45,7 +45,7 @@ pub fn cell_at(book: &[f64], n: usize, rows: &[usize], i: usize, j: usize) -> f6
 // Row i of the book that the rows make. Inner form.
 fn cell_row(book: &[f64], n: usize, rows: &[usize], i: usize, out: &mut [f64])
     requires { ⌜ Readable (now book) n (now rows) × (i < length (now rows)) × (length (now out) ≡ length (now rows)) ⌝ }
-    ensures { λ _. ⌜ now (out .exit) ≡ listed (through (now (book .entry)) n (now (rows .entry)) i) (length (now (rows .entry))) ⌝ }
+    ensures { λ _. ⌜ now (out .exit) ≡ listed (cellThrough (now (book .entry)) n (now (rows .entry)) i) (length (now (rows .entry))) ⌝ }
 {
     let m = rows.len();
     for j in 0..m {
@@ -56,7 +56,7 @@ fn cell_row(book: &[f64], n: usize, rows: &[usize], i: usize, out: &mut [f64])
 // The cells of the book that the rows make, row by row: the ordered matrix, where the rows are the order. Inner form.
 pub fn fill_cells(book: &[f64], n: usize, rows: &[usize], out: &mut [f64])
     requires { ⌜ Readable (now book) n (now rows) × (0 < length (now rows)) × (length (now out) ≡ length (now rows) * length (now rows)) ⌝ }
-    ensures { λ _. ⌜ now (out .exit) ≡ grid (through (now (book .entry)) n (now (rows .entry))) (length (now (rows .entry))) ⌝ }
+    ensures { λ _. ⌜ now (out .exit) ≡ matrixOf (cellThrough (now (book .entry)) n (now (rows .entry))) (length (now (rows .entry))) ⌝ }
 {
     let m = rows.len();
     for i in 0..m {
@@ -80,7 +80,7 @@ fn distance_row(book: &[f64], n: usize, rows: &[usize], i: usize, out: &mut [f64
 // The distances of the book that the rows make, row by row. Inner form.
 pub fn fill_distances(book: &[f64], n: usize, rows: &[usize], out: &mut [f64])
     requires { ⌜ Readable (now book) n (now rows) × (0 < length (now rows)) × (length (now out) ≡ length (now rows) * length (now rows)) ⌝ }
-    ensures { λ _. ⌜ now (out .exit) ≡ grid (distAt (now (book .entry)) n (now (rows .entry))) (length (now (rows .entry))) ⌝ }
+    ensures { λ _. ⌜ now (out .exit) ≡ matrixOf (distAt (now (book .entry)) n (now (rows .entry))) (length (now (rows .entry))) ⌝ }
 {
     let m = rows.len();
     for i in 0..m {

@@ -6,11 +6,11 @@ use native.Mathlib.Omega.{arith}
 use lib.ListN.{length, replicate}
 use lib.Ieee.{Float, nan, add, binary64}
 use Rattle.sqrt.specs.Root.{root}
-use Rattle.lists.specs.Lists.{listed, cells, part, grid}
+use Rattle.lists.specs.Lists.{listed, cells, part, matrixOf}
 use Rattle.lists.specs.Sums.{sumTo, squareFrom, zero64}
 use Rattle.lists.proofs.Sums.{sum-more, sum-same}
 use Rattle.lists.proofs.Listed.{getD-listed, listed-same, listed-const, listed-length, length-listed}
-use Rattle.lists.proofs.Grid.{in-grid}
+use Rattle.lists.proofs.Matrix.{in-matrix}
 use Rattle.lists.proofs.Rows.{row-end}
 use Rattle.lists.proofs.Parts.{getD-part, part-length}
 use Rattle.distance_columns.specs.Pair.{squaredAt, pairAt}
@@ -73,7 +73,7 @@ module _ (own across : List Float) (from : ℕ) where
   column-length s w c h = part-length (c * m + from) (m - from) across (omega (arith, row-end c m h, s))
 
 -- all the columns give the squared distances of the item that `own` is
-pub all-columns : (x : ℕ → ℕ → Float) (m i from : ℕ) {own across : List Float} → own ≡ listed (x i) m → across ≡ grid (λ a b. x b a) m → i < m
+pub all-columns : (x : ℕ → ℕ → Float) (m i from : ℕ) {own across : List Float} → own ≡ listed (x i) m → across ≡ matrixOf (λ a b. x b a) m → i < m
     → sumsFrom own across from (length own) ≡ listed (λ j. squaredAt x m i (from + j)) (m - from)
 unfolding squaredAt
 all-columns x m i from {own} {across} p q h =
@@ -82,7 +82,7 @@ all-columns x m i from {own} {across} p q h =
     (λ j l.
     let w : from + j < m = omega arith in
     sum-same (λ k. squareFrom (columnAt across m (from + j) k) (cells (listed (x i) m) k)) (λ k. squareFrom (x (from + j) k) (x i k)) m
-    (λ k r. rw (in-grid (λ a b. x b a) m k (from + j) nan q r w, getD-listed (x i) m k nan r))))
+    (λ k r. rw (in-matrix (λ a b. x b a) m k (from + j) nan q r w, getD-listed (x i) m k nan r))))
 
 -- squared distances, and distances, of items whose columns agree
 module _ (x y : ℕ → ℕ → Float) (m i j : ℕ) (e : (a b : ℕ) → a < m → b < m → x a b ≡ y a b) (h : i < m) (l : j < m) where

@@ -9,7 +9,7 @@ use lib.Seq.{take-at, drop-at}
 use lib.Dec.{eqb, leb}
 use borrow.Author.Tests.{eqb-true, leb-true}
 use lib.Ieee.{Float}
-use Rattle.lists.specs.Lists.{part, flat, grid}
+use Rattle.lists.specs.Lists.{part, flat, matrixOf}
 use Rattle.lists.proofs.Listed.{length-listed}
 use Rattle.lists.proofs.Parts.{drop-behind}
 use Rattle.refusals.specs.Table.{workDoubles, wiped}
@@ -24,12 +24,12 @@ module _ (x : ℕ → ℕ → Float) (m : ℕ) (d : List Float) {a : List Float}
   unfolding pairsArea
   pairs-length = simp (length-append, length-listed) (omega arith)
 
-  pub fourth-area : part (3 * (m * m)) (m * m) a ≡ grid (pairAt x m) m
+  pub fourth-area : part (3 * (m * m)) (m * m) a ≡ matrixOf (pairAt x m) m
   unfolding pairsArea
   fourth-area =
       let n = m * m in
-      let F = grid x m ++ (grid (λ i j. x j i) m ++ grid (squaredAt x m) m) in
-      let R = grid (pairAt x m) m in
+      let F = matrixOf x m ++ (matrixOf (λ i j. x j i) m ++ matrixOf (squaredAt x m) m) in
+      let R = matrixOf (pairAt x m) m in
       let s : a ≡ F ++ (R ++ drop (4 * n) d) = rw e (simp append-assoc) in
       let long : length F ≡ 3 * n = simp (length-append, length-listed) (omega arith) in
       rw (s, drop-at F (R ++ drop (4 * n) d) (3 * n) long) (take-at R (drop (4 * n) d) n (length-listed (flat (pairAt x m) m) n))

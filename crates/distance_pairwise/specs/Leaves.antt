@@ -6,7 +6,7 @@ use mathlib.Core.List.{List}
 use lib.Dec.{eqb, leb}
 use lib.ListN.{length}
 use lib.Ieee.{Float}
-use Rattle.lists.specs.Lists.{cellAt, grid, firstFrom}
+use Rattle.lists.specs.Lists.{cellAt, matrixOf, firstFrom}
 use Rattle.refusals.specs.Table.{refusal, workDoubles, Worked, worked}
 use Rattle.distance.specs.Distance.{distAt}
 use Rattle.distance_columns.specs.Pair.{pairAt}
@@ -18,13 +18,13 @@ listsFit m out floats = eqb out (m * m) && leb (workDoubles m) floats
 -- the distances between n points of n columns each, which lie one after the other
 unfoldable pub pairwiseDistances : List Float → ℕ → List Float → List Float → Worked
 pairwiseDistances points n out floats =
-    worked (refusal (length points) n n (listsFit n (length out) (length floats)) 0 0) n (grid (pairAt (cellAt points n) n) n) out floats
+    worked (refusal (length points) n n (listsFit n (length out) (length floats)) 0 0) n (matrixOf (pairAt (cellAt points n) n) n) out floats
 
 -- the same of the distances of the book that the rows make
 unfoldable pub pairwiseDistancesThrough : List Float → ℕ → List ℕ → List Float → List Float → Worked
 pairwiseDistancesThrough book n rows out floats =
     worked (refusal (length book) n (length rows) (listsFit (length rows) (length out) (length floats)) (firstFrom n rows) (length rows)) (length rows)
-    (grid (pairAt (distAt book n rows) (length rows)) (length rows)) out floats
+    (matrixOf (pairAt (distAt book n rows) (length rows)) (length rows)) out floats
 
 -- what holds of the lists once they fit
 pub record Fitting (m : ℕ) (out floats : List Float) : Type 0 where

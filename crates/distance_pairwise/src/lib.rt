@@ -3,7 +3,7 @@
 ghost use mathlib.Core.Path.{_≡_};
 ghost use Prim.Native.Nat.{_≤_, _*_};
 ghost use lib.ListN.{length};
-ghost use Rattle.lists.specs.Lists.{cellAt, part, grid};
+ghost use Rattle.lists.specs.Lists.{cellAt, part, matrixOf};
 ghost use Rattle.refusals.specs.Table.{refusalOf, refusal, wiped};
 ghost use Rattle.distance.specs.Distance.{Readable, distAt};
 ghost use Rattle.distance_columns.specs.Pair.{pairAt};
@@ -36,7 +36,7 @@ fn hand_out(m: usize, out: &mut [f64], floats: &mut [f64])
 // The pair distances of n points of n columns each to `out`; the front part of `floats` is left zero. Inner form: the lists fit.
 fn measure_points(points: &[f64], n: usize, out: &mut [f64], floats: &mut [f64])
     requires { ⌜ Fitting n (now out) (now floats) × (length (now points) ≡ n * n) ⌝ }
-    ensures { λ _. ⌜ (now (out .exit) ≡ grid (pairAt (cellAt (now (points .entry)) n) n) n) × (now (floats .exit) ≡ wiped n (now (floats .entry))) ⌝ }
+    ensures { λ _. ⌜ (now (out .exit) ≡ matrixOf (pairAt (cellAt (now (points .entry)) n) n) n) × (now (floats .exit) ≡ wiped n (now (floats .entry))) ⌝ }
 {
     let end = 4 * (n * n);
     point_pairs(points, n, &mut floats[..end]);
@@ -46,7 +46,7 @@ fn measure_points(points: &[f64], n: usize, out: &mut [f64], floats: &mut [f64])
 // The same of the distances of the book that the rows make. Inner form.
 fn measure_book(book: &[f64], n: usize, rows: &[usize], out: &mut [f64], floats: &mut [f64])
     requires { ⌜ Fitting (length (now rows)) (now out) (now floats) × Readable (now book) n (now rows) ⌝ }
-    ensures { λ _. ⌜ (now (out .exit) ≡ grid (pairAt (distAt (now (book .entry)) n (now (rows .entry))) (length (now (rows .entry)))) (length (now (rows .entry)))) × (now (floats .exit) ≡ wiped (length (now (rows .entry))) (now (floats .entry))) ⌝ }
+    ensures { λ _. ⌜ (now (out .exit) ≡ matrixOf (pairAt (distAt (now (book .entry)) n (now (rows .entry))) (length (now (rows .entry)))) (length (now (rows .entry)))) × (now (floats .exit) ≡ wiped (length (now (rows .entry))) (now (floats .entry))) ⌝ }
 {
     let m = rows.len();
     let end = 4 * (m * m);

@@ -10,7 +10,7 @@ use borrow.Author.Tests.{lt-ltb, le-ltb, ltb-true, ltb-false}
 use lib.Dec.{ltb}
 use lib.ListN.{length, getD, drop}
 use lib.Seq.{drop-cons}
-use Rattle.draws.specs.Draws.{Drawn, drawn, refused, takes, one, andThen}
+use Rattle.draws.specs.Draws.{Drawn, drawn, refused, takes, oneDraw, andThen}
 use Rattle.draws.specs.Stops.{drawOf}
 use Rattle.draws.specs.declared.Stop.{Stop}
 use Rattle.draws.specs.declared.Stop.the-variants.{DrawOutOfRange}
@@ -100,17 +100,17 @@ module _ {S : Type 0} where
   ends-map P Q P′ Q′ (refused p) h g k = k p h
 
 -- one draw, at place i of a list
-pub one-good : (limit : ℕ) (draws : List ℕ) (i : ℕ) → i < length draws → getD draws i 0 < limit → one limit i (drop i draws) ≡ drawn (getD draws i 0) (drop (i + 1) draws)
+pub one-good : (limit : ℕ) (draws : List ℕ) (i : ℕ) → i < length draws → getD draws i 0 < limit → oneDraw limit i (drop i draws) ≡ drawn (getD draws i 0) (drop (i + 1) draws)
 unfolding takes
 one-good limit draws i l g = rw (drop-cons draws i 0 l, lt-ltb (getD draws i 0) limit g, add-one i)
 
-pub one-bad : (limit : ℕ) (draws : List ℕ) (i : ℕ) → i < length draws → limit ≤ getD draws i 0 → one limit i (drop i draws) ≡ refused i
+pub one-bad : (limit : ℕ) (draws : List ℕ) (i : ℕ) → i < length draws → limit ≤ getD draws i 0 → oneDraw limit i (drop i draws) ≡ refused i
 unfolding takes
 one-bad limit draws i l g = rw (drop-cons draws i 0 l, le-ltb (getD draws i 0) limit g)
 
 -- one draw is below its limit
 pub one-took : (limit at : ℕ) (ds : List ℕ) → 0 < limit
-    → Ends (λ d rest. (d < limit) × (rest ≡ drop 1 ds) × (1 ≤ length ds)) (λ p. (at ≤ p) × (p < at + 1)) (one limit at ds)
+    → Ends (λ d rest. (d < limit) × (rest ≡ drop 1 ds) × (1 ≤ length ds)) (λ p. (at ≤ p) × (p < at + 1)) (oneDraw limit at ds)
 one-took limit at ds h = took limit (λ s d. d) (λ d. d < limit) (λ s d q g. g) 1 0 at ds h
 
 either : {R : Type 0} (a b : ℕ) → (a < b → R) → (b ≤ a → R) → R
@@ -121,7 +121,7 @@ either {R} a b f g = by-test (ltb a b) refl
     by-test false e = g (ltb-false a b e)
 
 -- what the answer of one draw says of it
-value-at : (limit : ℕ) (draws : List ℕ) (i : ℕ) {d : ℕ} → i < length draws → drawOf (one limit i (drop i draws)) ≡ Value d → (d ≡ getD draws i 0) × (d < limit)
+value-at : (limit : ℕ) (draws : List ℕ) (i : ℕ) {d : ℕ} → i < length draws → drawOf (oneDraw limit i (drop i draws)) ≡ Value d → (d ≡ getD draws i 0) × (d < limit)
 value-at limit draws i {d} l e = either (getD draws i 0) limit good bad
   where
     good : getD draws i 0 < limit → (d ≡ getD draws i 0) × (d < limit)
@@ -130,7 +130,7 @@ value-at limit draws i {d} l e = either (getD draws i 0) limit good bad
     bad : limit ≤ getD draws i 0 → (d ≡ getD draws i 0) × (d < limit)
     bad g = let q : Stopped (DrawOutOfRange i) ≡ Value d = ap drawOf (sym (one-bad limit draws i l g)) ∙ e in let z : _≡_ {A = ℕ} 0 1 = cc in absurd (omega arith)
 
-stopped-at : (limit : ℕ) (draws : List ℕ) (i : ℕ) {s : Stop} → i < length draws → drawOf (one limit i (drop i draws)) ≡ Stopped s → (s ≡ DrawOutOfRange i) × (limit ≤ getD draws i 0)
+stopped-at : (limit : ℕ) (draws : List ℕ) (i : ℕ) {s : Stop} → i < length draws → drawOf (oneDraw limit i (drop i draws)) ≡ Stopped s → (s ≡ DrawOutOfRange i) × (limit ≤ getD draws i 0)
 stopped-at limit draws i {s} l e = either (getD draws i 0) limit good bad
   where
     good : getD draws i 0 < limit → (s ≡ DrawOutOfRange i) × (limit ≤ getD draws i 0)
@@ -139,27 +139,27 @@ stopped-at limit draws i {s} l e = either (getD draws i 0) limit good bad
     bad : limit ≤ getD draws i 0 → (s ≡ DrawOutOfRange i) × (limit ≤ getD draws i 0)
     bad g = let q : Stopped (DrawOutOfRange i) ≡ Stopped s = ap drawOf (sym (one-bad limit draws i l g)) ∙ e in let r : s ≡ DrawOutOfRange i = cc in (r, g)
 
-pub draw-value : (limit : ℕ) (draws : List ℕ) (i : ℕ) {d : ℕ} → i < length draws → drawOf (one limit i (drop i draws)) ≡ Value d
-    → (d < limit) × (one limit i (drop i draws) ≡ drawn d (drop (i + 1) draws))
+pub draw-value : (limit : ℕ) (draws : List ℕ) (i : ℕ) {d : ℕ} → i < length draws → drawOf (oneDraw limit i (drop i draws)) ≡ Value d
+    → (d < limit) × (oneDraw limit i (drop i draws) ≡ drawn d (drop (i + 1) draws))
 draw-value limit draws i l e =
     let v = value-at limit draws i l e in
     let g : getD draws i 0 < limit = subst (λ (x : ℕ). x < limit) (v .0) (v .1) in
     (v .1, one-good limit draws i l g ∙ ap (λ (x : ℕ). drawn x (drop (i + 1) draws)) (sym (v .0)))
 
-pub draw-stopped : (limit : ℕ) (draws : List ℕ) (i : ℕ) {s : Stop} → i < length draws → drawOf (one limit i (drop i draws)) ≡ Stopped s
-    → (s ≡ DrawOutOfRange i) × (one limit i (drop i draws) ≡ refused i)
+pub draw-stopped : (limit : ℕ) (draws : List ℕ) (i : ℕ) {s : Stop} → i < length draws → drawOf (oneDraw limit i (drop i draws)) ≡ Stopped s
+    → (s ≡ DrawOutOfRange i) × (oneDraw limit i (drop i draws) ≡ refused i)
 draw-stopped limit draws i l e = let v = stopped-at limit draws i l e in (v .0, one-bad limit draws i l (v .1))
 
 -- the steps of a loop over draws, by the answer of each
 module _ {S : Type 0} (limit : ℕ) (step : S → ℕ → S) (draws : List ℕ) (end i : ℕ) (s : S) (h : i < end) (l : i < length draws) where
-  pub take-value : {d : ℕ} → drawOf (one limit i (drop i draws)) ≡ Value d
+  pub take-value : {d : ℕ} → drawOf (oneDraw limit i (drop i draws)) ≡ Value d
       → takes limit step (end - i) s i (drop i draws) ≡ takes limit step (end - (i + 1)) (step s d) (i + 1) (drop (i + 1) draws)
   take-value {d} e =
       let v = value-at limit draws i l e in
       let g : getD draws i 0 < limit = subst (λ (x : ℕ). x < limit) (v .0) (v .1) in
       take-good limit step draws end i s h l g ∙ ap (λ (x : ℕ). takes limit step (end - (i + 1)) (step s x) (i + 1) (drop (i + 1) draws)) (sym (v .0))
 
-  pub take-stopped : {q : Stop} → drawOf (one limit i (drop i draws)) ≡ Stopped q → (takes limit step (end - i) s i (drop i draws) ≡ refused i) × (q ≡ DrawOutOfRange i)
+  pub take-stopped : {q : Stop} → drawOf (oneDraw limit i (drop i draws)) ≡ Stopped q → (takes limit step (end - i) s i (drop i draws) ≡ refused i) × (q ≡ DrawOutOfRange i)
   take-stopped e = let v = stopped-at limit draws i l e in (take-bad limit step draws end i s h l (v .1), v .0)
 
 -- steps that agree on draws below the limit

@@ -21,8 +21,8 @@ takes limit step (suc n) s at [] = refused at
 takes limit step (suc n) s at (d ∷ ds) = cond (ltb d limit) (takes limit step n (step s d) (at + 1) ds) (refused at)
 
 -- one draw below `limit`
-abbrev pub one : ℕ → ℕ → List ℕ → Drawn ℕ
-one limit at ds = takes limit (λ s d. d) 1 0 at ds
+abbrev pub oneDraw : ℕ → ℕ → List ℕ → Drawn ℕ
+oneDraw limit at ds = takes limit (λ s d. d) 1 0 at ds
 
 -- f of what was made, with the draws that remain
 abbrev pub andThen : {S U : Type 0} → Drawn S → (S → List ℕ → Drawn U) → Drawn U
@@ -42,7 +42,7 @@ share d = div binary64 (counted d) full
 
 -- an index draw among m names
 abbrev pub indexDraw : ℕ → ℕ → List ℕ → Drawn ℕ
-indexDraw m at ds = one m at ds
+indexDraw m at ds = oneDraw m at ds
 
 -- What is proved of `share`: it is exactly d over 2 ^ 53. HasValue x false a c says that x is finite, not negative, and a / c.
 abbrev pub ShareClaim : Type 0

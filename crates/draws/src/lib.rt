@@ -4,7 +4,7 @@ ghost use Prim.Native.Nat.{_≤_, _<_, _+_};
 ghost use lib.ListN.{length, drop};
 ghost use Rattle.draws.specs.Counts.{trialsOf, seedingOf, tries, countOf};
 ghost use Rattle.draws.specs.Bounds.{laterOf};
-ghost use Rattle.draws.specs.Draws.{one, share};
+ghost use Rattle.draws.specs.Draws.{oneDraw, share};
 ghost use Rattle.draws.specs.Stops.{stopNumber, stopPlace, drawOf};
 
 // What can end a run: a 33rd round, too few draws (with the draws read so far), a draw out of range (with its place). By the
@@ -121,7 +121,7 @@ pub fn draws_for(m: usize) -> u64
 // The draw at place `at`, which must be below the limit. Inner form: the list has one there.
 pub fn draw_below(draws: &[u64], at: usize, limit: u64) -> Draw
     requires { ⌜ at < length (now draws) ⌝ }
-    ensures { λ r. ⌜ r ≡ drawOf (one limit at (drop at (now (draws .entry)))) ⌝ }
+    ensures { λ r. ⌜ r ≡ drawOf (oneDraw limit at (drop at (now (draws .entry)))) ⌝ }
 {
     let d = draws[at];
     if limit <= d {

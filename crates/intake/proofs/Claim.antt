@@ -13,9 +13,9 @@ use lib.IntN.{ℤ, pos, natAbs}
 use lib.ListN.{length}
 use Rattle.lists.specs.Lists.{firstTo}
 use Rattle.lists.proofs.Tests.{impossible}
-use Rattle.lists.proofs.Grid.{row-below, column-below, cell-below, row-of-cell, column-of-cell}
+use Rattle.lists.proofs.Matrix.{row-below, column-below, cell-below, row-of-cell, column-of-cell}
 use Rattle.lists.proofs.First.{first-none}
-use Rattle.refusals.specs.Table.{Refusal, none, refused, refusal, when, unless, orElse}
+use Rattle.refusals.specs.Table.{Refusal, none, refused, refusal, whenever, unless, orElse}
 use Rattle.intake.specs.Intake.{million, cellOf, sameZ, inRange, onDiagonal, causeOf, causeAt, firstFault, faultOf, intakeOf}
 use Rattle.intake.specs.Claim.{cell, Right, ProperBook, Cause, out-of-range, not-one, not-mirrored, Shaped, Misshaped, not-square, few-rows, many-rows, cell-count, FirstCell, IntakeClaim}
 use Rattle.intake.proofs.Whole.{same-true, same-self}
@@ -103,12 +103,12 @@ not-above k h = let q : k ≤ 0 = ltb-false 0 k h in omega arith
 
 -- the shape is right, so the cells decide
 cells-decide : (cells : List ℤ) (n : ℕ) → Shaped cells n → intakeOf cells n n ≡ faultOf cells n
-unfolding intakeOf orElse refusal when unless
+unfolding intakeOf orElse refusal whenever unless
 cells-decide cells n s = rw (eq-eqb n n refl, le-ltb n 2 (s .two), le-ltb 256 n (s .few), eq-eqb (length cells) (n * n) (s .full))
 
 -- and another shape does
 shape-decides : (cells : List ℤ) (rows cols k : ℕ) → Misshaped cells rows cols k → intakeOf cells rows cols ≡ refused k
-unfolding intakeOf orElse refusal when unless
+unfolding intakeOf orElse refusal whenever unless
 shape-decides cells rows cols k (not-square h) = rw (ne-eqb rows cols h)
 shape-decides cells rows cols k (few-rows e h) = rw (eq-eqb rows cols e, lt-ltb rows 2 h)
 shape-decides cells rows cols k (many-rows e h) = let l : 2 ≤ rows = omega arith in rw (eq-eqb rows cols e, le-ltb rows 2 l, lt-ltb 256 rows h)

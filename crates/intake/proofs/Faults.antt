@@ -8,9 +8,9 @@ use borrow.Author.Tests.{lt-ltb, le-ltb, ltb-true}
 use lib.Dec.{eqb, ltb}
 use lib.IntN.{ℤ}
 use Rattle.lists.specs.Lists.{firstTo}
-use Rattle.lists.proofs.Grid.{row-below, column-below, cell-below}
+use Rattle.lists.proofs.Matrix.{row-below, column-below, cell-below}
 use Rattle.lists.proofs.First.{first-more, first-found, first-holds}
-use Rattle.refusals.specs.Table.{none, when}
+use Rattle.refusals.specs.Table.{none, whenever}
 use Rattle.intake.specs.Intake.{inRange, onDiagonal, sameZ, cellOf, causeOf, causeAt, firstFault, faultOf}
 
 -- a book that has a place has a name
@@ -56,11 +56,11 @@ first-cause cells n h = ltb-true 0 _ (first-holds (λ t. ltb 0 (causeAt cells n 
 
 -- what is answered: none, or the first fault with its cause
 pub no-fault : (cells : List ℤ) (n : ℕ) {t : ℕ} → t ≡ firstFault cells n → n * n ≤ t → none ≡ faultOf cells n
-unfolding faultOf when
+unfolding faultOf whenever
 no-fault cells n {t} e h = rw (← e, le-ltb t (n * n) h)
 
 pub is-fault : (cells : List ℤ) (n : ℕ) {t k : ℕ} → t ≡ firstFault cells n → t < n * n → k ≡ causeAt cells n t → record { number = k; place = t } ≡ faultOf cells n
-unfolding faultOf when
+unfolding faultOf whenever
 is-fault cells n {t} e h q = rw (← e, lt-ltb t (n * n) h, q)
 
 pub third-fault : (cells : List ℤ) (n : ℕ) {t k : ℕ} → t ≡ firstFault cells n → t < n * n → k ≡ causeAt cells n t → (k ≡ 21 → ⊥) → (k ≡ 22 → ⊥) → record { number = 23; place = t } ≡ faultOf cells n

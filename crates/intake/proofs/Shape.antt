@@ -8,14 +8,14 @@ use borrow.Author.Tests.{eq-eqb, ne-eqb}
 use lib.Dec.{ltb}
 use lib.IntN.{ℤ}
 use lib.ListN.{length}
-use Rattle.refusals.specs.Table.{Refusal, none, refused, when, unless, refusal, orElse}
+use Rattle.refusals.specs.Table.{Refusal, none, refused, whenever, unless, refusal, orElse}
 use Rattle.refusals.proofs.Laws.{accepted, unless-none}
 use Rattle.intake.specs.Intake.{faultOf, shapeOf, intakeOf}
 
 -- what holds of both refusals holds of the row that has them
 module _ (P : Refusal → Type 0) (q below : Refusal) (p : P q) (b : P below) where
-  either-when : (test : Bool) → P (when test q below)
-  unfolding when
+  either-when : (test : Bool) → P (whenever test q below)
+  unfolding whenever
   either-when true = p
   either-when false = b
 
@@ -38,8 +38,8 @@ plain-4 = record { placeless = refl; five = λ a b c. absurd (c refl) }
 plain-5 : Plain (refused 5)
 plain-5 = record { placeless = refl; five = λ a b c. refl }
 
-plain-none : Plain (unless true (refused 6) (when (ltb 0 0) (refused 10) none))
-unfolding unless when
+plain-none : Plain (unless true (refused 6) (whenever (ltb 0 0) (refused 10) none))
+unfolding unless whenever
 plain-none = record { placeless = refl; five = λ a b c. absurd (a refl) }
 
 -- the shape of a book is one

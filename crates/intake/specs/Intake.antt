@@ -6,7 +6,7 @@ use lib.Dec.{eqb, ltb, leb}
 use lib.ListN.{length, getD}
 use lib.IntN.{ℤ, pos, negsuc, natAbs}
 use Rattle.lists.specs.Lists.{firstTo}
-use Rattle.refusals.specs.Table.{Refusal, none, refused, when, unless, refusal, orElse}
+use Rattle.refusals.specs.Table.{Refusal, none, refused, whenever, unless, refusal, orElse}
 
 -- the millionths of 1
 abbrev pub million : ℕ
@@ -47,7 +47,7 @@ firstFault cells n = firstTo (λ t. ltb 0 (causeAt cells n t)) (n * n)
 
 -- what it gives: that cause and that place
 unfoldable pub faultOf : List ℤ → ℕ → Refusal
-faultOf cells n = when (ltb (firstFault cells n) (n * n)) (record { number = causeAt cells n (firstFault cells n); place = firstFault cells n }) none
+faultOf cells n = whenever (ltb (firstFault cells n) (n * n)) (record { number = causeAt cells n (firstFault cells n); place = firstFault cells n }) none
 
 -- the shape of a book of so many rows, columns and cells: 2, 4 or 5, then 6 where the other lists of the call do not fit
 abbrev pub shapeOf : ℕ → ℕ → ℕ → Bool → Refusal

@@ -6,7 +6,7 @@ use native.Mathlib.Omega.{arith}
 use lib.ListN.{length, take, drop, length-append, length-drop}
 use lib.Seq.{take-take, take-all, take-at, length-take-le}
 use lib.Ieee.{Float}
-use Rattle.lists.specs.Lists.{cellAt, part, grid}
+use Rattle.lists.specs.Lists.{cellAt, part, matrixOf}
 use Rattle.lists.proofs.Parts.{front-less, part-front, part-length}
 use Rattle.distance_columns.specs.Pair.{squaredAt}
 use Rattle.distance_columns.specs.Columns.{pointsAt}
@@ -30,10 +30,10 @@ module _ (m : ℕ) (front back : List Float) (t : Turned front m) (s : Summed fr
         size = length-append front back ∙ omega (arith, l, t .four .size);
         across =
             part-front (4 * (m * m)) (m * m) (m * m) (front ++ back) front (omega arith) agree ∙ t .across
-            ∙ ap (λ (x : List Float). grid (λ i j. cellAt x m j i) m) (sym points-front);
+            ∙ ap (λ (x : List Float). matrixOf (λ i j. cellAt x m j i) m) (sym points-front);
         squares =
             part-front (4 * (m * m)) (2 * (m * m)) (m * m) (front ++ back) front (omega arith) agree ∙ s .squares
-            ∙ ap (λ (x : List Float). grid (squaredAt (cellAt x m) m) m) (sym points-front);
+            ∙ ap (λ (x : List Float). matrixOf (squaredAt (cellAt x m) m) m) (sym points-front);
       }
 
 -- the points have been copied to the front
@@ -68,7 +68,7 @@ module _ (area : List Float) (m : ℕ) (h : Held area m) where
   third-size : 3 * (m * m) - 2 * (m * m) ≡ m * m
   third-size = omega arith
 
-  pub third-area : part (2 * (m * m)) (3 * (m * m) - 2 * (m * m)) area ≡ grid (squaredAt (pointsAt area m) m) m
+  pub third-area : part (2 * (m * m)) (3 * (m * m) - 2 * (m * m)) area ≡ matrixOf (squaredAt (pointsAt area m) m) m
   third-area = rw third-size (h .squares)
 
   pub third-ready : (k : ℕ) (draws : List ℕ) (at : ℕ) → MaySeed m k draws at → Ready (part (2 * (m * m)) (3 * (m * m) - 2 * (m * m)) area) m k draws at

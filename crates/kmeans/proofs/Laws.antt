@@ -7,9 +7,9 @@ use native.Mathlib.Omega.{arith}
 use lib.ListN.{length, take, drop, length-append}
 use lib.Seq.{take-at, drop-at, drop-drop}
 use lib.Ieee.{Float, nan}
-use Rattle.lists.specs.Lists.{numbers, part, flat, grid}
+use Rattle.lists.specs.Lists.{numbers, part, flat, matrixOf}
 use Rattle.lists.proofs.Listed.{length-listed}
-use Rattle.lists.proofs.Grid.{in-grid, grid-same}
+use Rattle.lists.proofs.Matrix.{in-matrix, matrix-same}
 use Rattle.distance_columns.specs.Pair.{squaredAt, pairAt}
 use Rattle.distance_columns.specs.Columns.{pointsAt}
 use Rattle.distance_columns.proofs.Steps.{squared-same}
@@ -19,7 +19,7 @@ use Rattle.draws.specs.Draws.{Drawn, drawn, refused}
 use Rattle.draws.specs.declared.Stop.{Stop}
 use Rattle.draws.specs.declared.Stop.the-variants.{DrawOutOfRange}
 use Rattle.draws.proofs.Taken.{Ends, Among, behind, then-ends, then-behind, then-same}
-use Rattle.plusplus.specs.Seeding.{seeding, SeededBy, Below}
+use Rattle.plusplus.specs.Seeding.{seeding, SeededBy, AllBelow}
 use Rattle.plusplus.specs.declared.Seeded as seeded
 use Rattle.plusplus.proofs.Seeds.{seeding-took, seeding-behind, seed-done, seed-stopped}
 use Rattle.plusplus.proofs.Same.{seeding-same}
@@ -68,7 +68,7 @@ module _ (x : ℕ → ℕ → Float) (m k : ℕ) (z : 0 < m) (one-of : 0 < k) wh
   pub kmeans-took : (at : ℕ) (ds : List ℕ) → Ends (Took m k ds) (Among at (seedingOf k)) (kmeansOf x m k at ds)
   unfolding kmeansOf
   kmeans-took at ds =
-      then-ends (λ cs rest. (length cs ≡ k) × Below m cs × (rest ≡ drop (seedingOf k) ds) × (seedingOf k ≤ length ds)) (Among at (seedingOf k))
+      then-ends (λ cs rest. (length cs ≡ k) × AllBelow m cs × (rest ≡ drop (seedingOf k) ds) × (seedingOf k ≤ length ds)) (Among at (seedingOf k))
       (Took m k ds) (Among at (seedingOf k))
       (seeding (squaredAt x m) m k at ds) (λ cs rest. drawn (grouped x m k cs) rest)
       (seeding-took (squaredAt x m) m k z one-of at ds)
@@ -80,7 +80,7 @@ module _ (x : ℕ → ℕ → Float) (m k : ℕ) (z : 0 < m) (one-of : 0 < k) wh
   unfolding kmeansOf
   kmeans-behind at p b l =
       rw (seeding-behind (squaredAt x m) m k z one-of at p b l)
-      (then-behind (λ cs rest. (length cs ≡ k) × Below m cs × (rest ≡ drop (seedingOf k) p) × (seedingOf k ≤ length p)) (Among at (seedingOf k))
+      (then-behind (λ cs rest. (length cs ≡ k) × AllBelow m cs × (rest ≡ drop (seedingOf k) p) × (seedingOf k ≤ length p)) (Among at (seedingOf k))
       (seeding (squaredAt x m) m k at p) (λ cs rest. drawn (grouped x m k cs) rest) b
       (seeding-took (squaredAt x m) m k z one-of at p) (λ cs rest h. refl))
 
@@ -130,49 +130,49 @@ pub kmeans-same : (x y : ℕ → ℕ → Float) (m k : ℕ) → 0 < m → 0 < k 
 unfolding kmeansOf
 kmeans-same x y m k z one-of agree at ds =
     rw (seeding-same (squaredAt x m) (squaredAt y m) m z (λ p i h l. squared-same x y m p i agree h l) k at ds)
-    (then-same (λ cs rest. (length cs ≡ k) × Below m cs × (rest ≡ drop (seedingOf k) ds) × (seedingOf k ≤ length ds)) (Among at (seedingOf k))
+    (then-same (λ cs rest. (length cs ≡ k) × AllBelow m cs × (rest ≡ drop (seedingOf k) ds) × (seedingOf k ≤ length ds)) (Among at (seedingOf k))
     (seeding (squaredAt y m) m k at ds) (λ cs rest. drawn (grouped x m k cs) rest) (λ cs rest. drawn (grouped y m k cs) rest)
     (seeding-took (squaredAt y m) m k z one-of at ds)
     (λ cs rest h. let e = lloyd-same x y m k (numbers cs) agree (rw (h .0) at (h .1)) in rw (e .0, e .1)))
 
 -- the four areas of a round and a fifth, whatever it holds
 module _ (x : ℕ → ℕ → Float) (m : ℕ) (back : List Float) where
-  in-order : pairsArea x m ++ back ≡ grid x m ++ (grid (λ i j. x j i) m ++ (grid (squaredAt x m) m ++ (grid (pairAt x m) m ++ back)))
+  in-order : pairsArea x m ++ back ≡ matrixOf x m ++ (matrixOf (λ i j. x j i) m ++ (matrixOf (squaredAt x m) m ++ (matrixOf (pairAt x m) m ++ back)))
   unfolding pairsArea
   in-order = simp append-assoc
 
-  long : (g : ℕ → ℕ → Float) → length (grid g m) ≡ m * m
+  long : (g : ℕ → ℕ → Float) → length (matrixOf g m) ≡ m * m
   long g = length-listed (flat g m) (m * m)
 
-  first-is : take (m * m) (pairsArea x m ++ back) ≡ grid x m
-  first-is = rw in-order (take-at (grid x m) _ (m * m) (long x))
+  first-is : take (m * m) (pairsArea x m ++ back) ≡ matrixOf x m
+  first-is = rw in-order (take-at (matrixOf x m) _ (m * m) (long x))
 
-  from-second : drop (m * m) (pairsArea x m ++ back) ≡ grid (λ i j. x j i) m ++ (grid (squaredAt x m) m ++ (grid (pairAt x m) m ++ back))
-  from-second = rw in-order (drop-at (grid x m) _ (m * m) (long x))
+  from-second : drop (m * m) (pairsArea x m ++ back) ≡ matrixOf (λ i j. x j i) m ++ (matrixOf (squaredAt x m) m ++ (matrixOf (pairAt x m) m ++ back))
+  from-second = rw in-order (drop-at (matrixOf x m) _ (m * m) (long x))
 
-  second-is : part (m * m) (m * m) (pairsArea x m ++ back) ≡ grid (λ i j. x j i) m
-  second-is = rw from-second (take-at (grid (λ i j. x j i) m) _ (m * m) (long (λ i j. x j i)))
+  second-is : part (m * m) (m * m) (pairsArea x m ++ back) ≡ matrixOf (λ i j. x j i) m
+  second-is = rw from-second (take-at (matrixOf (λ i j. x j i) m) _ (m * m) (long (λ i j. x j i)))
 
-  from-third : drop (2 * (m * m)) (pairsArea x m ++ back) ≡ grid (squaredAt x m) m ++ (grid (pairAt x m) m ++ back)
+  from-third : drop (2 * (m * m)) (pairsArea x m ++ back) ≡ matrixOf (squaredAt x m) m ++ (matrixOf (pairAt x m) m ++ back)
   from-third =
       let e : m * m + m * m ≡ 2 * (m * m) = omega arith in
-      rw (← e) (sym (drop-drop (m * m) (m * m) (pairsArea x m ++ back)) ∙ ap (drop (m * m)) from-second ∙ drop-at (grid (λ i j. x j i) m) _ (m * m) (long (λ i j. x j i)))
+      rw (← e) (sym (drop-drop (m * m) (m * m) (pairsArea x m ++ back)) ∙ ap (drop (m * m)) from-second ∙ drop-at (matrixOf (λ i j. x j i) m) _ (m * m) (long (λ i j. x j i)))
 
-  third-is : part (2 * (m * m)) (m * m) (pairsArea x m ++ back) ≡ grid (squaredAt x m) m
-  third-is = rw from-third (take-at (grid (squaredAt x m) m) _ (m * m) (long (squaredAt x m)))
+  third-is : part (2 * (m * m)) (m * m) (pairsArea x m ++ back) ≡ matrixOf (squaredAt x m) m
+  third-is = rw from-third (take-at (matrixOf (squaredAt x m) m) _ (m * m) (long (squaredAt x m)))
 
-  from-fourth : drop (3 * (m * m)) (pairsArea x m ++ back) ≡ grid (pairAt x m) m ++ back
+  from-fourth : drop (3 * (m * m)) (pairsArea x m ++ back) ≡ matrixOf (pairAt x m) m ++ back
   from-fourth =
       let e : 2 * (m * m) + m * m ≡ 3 * (m * m) = omega arith in
-      rw (← e) (sym (drop-drop (m * m) (2 * (m * m)) (pairsArea x m ++ back)) ∙ ap (drop (m * m)) from-third ∙ drop-at (grid (squaredAt x m) m) _ (m * m) (long (squaredAt x m)))
+      rw (← e) (sym (drop-drop (m * m) (2 * (m * m)) (pairsArea x m ++ back)) ∙ ap (drop (m * m)) from-third ∙ drop-at (matrixOf (squaredAt x m) m) _ (m * m) (long (squaredAt x m)))
 
   -- the pair distances
-  pub fourth-is : part (3 * (m * m)) (m * m) (pairsArea x m ++ back) ≡ grid (pairAt x m) m
-  fourth-is = rw from-fourth (take-at (grid (pairAt x m) m) back (m * m) (long (pairAt x m)))
+  pub fourth-is : part (3 * (m * m)) (m * m) (pairsArea x m ++ back) ≡ matrixOf (pairAt x m) m
+  fourth-is = rw from-fourth (take-at (matrixOf (pairAt x m) m) back (m * m) (long (pairAt x m)))
 
   -- the points that k-means reads there are x
   pub pairs-points : (i c : ℕ) → i < m → c < m → pointsAt (pairsArea x m ++ back) m i c ≡ x i c
-  pairs-points i c h l = in-grid x m i c nan first-is h l
+  pairs-points i c h l = in-matrix x m i c nan first-is h l
 
   pub pairs-held : 0 < m → m ≤ 256 → length back ≡ m * m → Held (pairsArea x m ++ back) m
   pairs-held some few l =
@@ -180,10 +180,10 @@ module _ (x : ℕ → ℕ → Float) (m : ℕ) (back : List Float) where
         some = some;
         few = few;
         size = pairs-size l;
-        across = second-is ∙ grid-same nan (λ i j. x j i) (λ i j. pointsAt (pairsArea x m ++ back) m j i) m (λ i j h c. sym (pairs-points j i c h));
+        across = second-is ∙ matrix-same nan (λ i j. x j i) (λ i j. pointsAt (pairsArea x m ++ back) m j i) m (λ i j h c. sym (pairs-points j i c h));
         squares =
             third-is
-            ∙ grid-same nan (squaredAt x m) (squaredAt (pointsAt (pairsArea x m ++ back) m) m) m
+            ∙ matrix-same nan (squaredAt x m) (squaredAt (pointsAt (pairsArea x m ++ back) m) m) m
             (λ i j h c. squared-same x (pointsAt (pairsArea x m ++ back) m) m i j (λ a b u v. sym (pairs-points a b u v)) h c);
       }
     where

@@ -7,7 +7,7 @@ use lib.Dec.{eqb, ltb, leb}
 use lib.ListN.{length}
 use lib.Ieee.{Float}
 use Rattle.refusals.specs.Table as table
-use Rattle.refusals.specs.Table.{Refusal, none, when, orElse, refusal, workDoubles, wiped, workNumbers, wipedNumbers}
+use Rattle.refusals.specs.Table.{Refusal, none, whenever, orElse, refusal, workDoubles, wiped, workNumbers, wipedNumbers}
 use Rattle.draws.specs.Draws.{Drawn, drawn, refused}
 
 -- a matrix of points, of 2 to 256 items
@@ -21,7 +21,7 @@ pub record Points (points : List Float) (n : ℕ) : Type 0 where
 unfoldable pub leafRefusal : ℕ → ℕ → Bool → ℕ → ℕ → ℕ → Refusal
 leafRefusal cells n fits k bad count =
     orElse (refusal cells n n fits 0 0)
-    (when (ltb k 2 || ltb n k) (table.refused 29) (when (ltb bad count) (record { number = 10; place = bad }) none))
+    (whenever (ltb k 2 || ltb n k) (table.refused 29) (whenever (ltb bad count) (record { number = 10; place = bad }) none))
 
 -- an output list of `size` numbers, and both working lists at a run's lengths
 abbrev pub listsFit : ℕ → ℕ → ℕ → ℕ → ℕ → Bool

@@ -9,7 +9,7 @@ use lib.ListN.{length, getD, take, drop, set, length-drop, take-append-drop}
 use lib.Seq.{take-set-le, drop-set-add, take-add, drop-drop}
 use Rattle.lists.specs.Lists.{listed, part, put, flat}
 use Rattle.lists.proofs.Listed.{writes, writes-front, length-listed, listed-same, listed-of}
-use Rattle.lists.proofs.Grid.{flat-at, listed-append}
+use Rattle.lists.proofs.Matrix.{flat-at, listed-append}
 use Rattle.lists.proofs.Parts.{put-length, put-take, put-part, put-drop, part-length, getD-part}
 
 module _ {A : Type 0} where

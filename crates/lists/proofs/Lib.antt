@@ -3,7 +3,7 @@ pub mod Tests
 pub mod Listed
 pub mod First
 pub mod Rows
-pub mod Grid
+pub mod Matrix
 pub mod Parts
 pub mod Refilled
 pub mod Areas

@@ -39,8 +39,8 @@ cellAt p n i j = cells p (i * n + j)
 abbrev pub flat : {A : Type 0} → (ℕ → ℕ → A) → ℕ → ℕ → A
 flat g n t = g (t / n) (t % n)
 
-abbrev pub grid : {A : Type 0} → (ℕ → ℕ → A) → ℕ → List A
-grid g n = listed (flat g n) (n * n)
+abbrev pub matrixOf : {A : Type 0} → (ℕ → ℕ → A) → ℕ → List A
+matrixOf g n = listed (flat g n) (n * n)
 
 -- the first place below n where p holds, and n where there is none
 unfoldable pub firstTo : (ℕ → Bool) → ℕ → ℕ

@@ -6,7 +6,7 @@ ghost use mathlib.Core.Bool.{false};
 ghost use lib.ListN.{length, replicate};
 ghost use lib.Ieee.{inf};
 ghost use lib.Ieee.Scale.{finite};
-ghost use Rattle.lists.specs.Lists.{row, cells, cellAt, listed, grid, put, firstFrom};
+ghost use Rattle.lists.specs.Lists.{row, cells, cellAt, listed, matrixOf, put, firstFrom};
 ghost use Rattle.lists.specs.Sums as sums;
 ghost use Rattle.lists.specs.Sums.{counted, sumTo};
 
@@ -87,7 +87,7 @@ fn copy_column(from: &[f64], n: usize, i: usize, out: &mut [f64])
 // The matrix whose rows are the columns of the first, which has n rows of n cells. Inner form.
 pub fn transpose(from: &[f64], n: usize, out: &mut [f64])
     requires { ⌜ (0 < n) × (n ≤ 256) × (length (now from) ≡ n * n) × (length (now out) ≡ n * n) ⌝ }
-    ensures { λ _. ⌜ now (out .exit) ≡ grid (λ i j. cellAt (now (from .entry)) n j i) n ⌝ }
+    ensures { λ _. ⌜ now (out .exit) ≡ matrixOf (λ i j. cellAt (now (from .entry)) n j i) n ⌝ }
 {
     for i in 0..n {
         let at = i * n;

@@ -7,7 +7,7 @@ use native.Mathlib.Omega.{arith}
 use native.Mathlib.Numerals.{add-one}
 use lib.ListN.{length, replicate, take}
 use lib.Ieee.{Float, nan}
-use Rattle.lloyd_pass.specs.Passes.{centroidsAt, distsOf, labelsAt, labelsOf, moved, nearest, convergesAt}
+use Rattle.lloyd_pass.specs.Passes.{centroidsAt, distsOf, labelsAt, labelsOf, moved, nearestCentroid, convergesAt}
 use borrow.Author.Tests.{lt-ltb, ne-eqb}
 use Rattle.lloyd_nearest.specs.Nearest.{nearestTo, sameLabels}
 use Rattle.lloyd_mean.specs.Groups.{distances, mean}
@@ -28,19 +28,19 @@ use Rattle.lloyd_pass.specs.declared.Ended.the-variants.{PassLimit, Converged}
 
 -- the nearest by the table are the nearest by the centroids
 module _ (x : ℕ → ℕ → Float) (area : List Float) (m k : ℕ) (centroid : ℕ → ℕ → Float) (w : Table area m k x centroid) where
-  near : (i : ℕ) → i < m → nearestTo (λ l. cells (tableRow area m l) i) k ≡ nearest x m k centroid i
+  near : (i : ℕ) → i < m → nearestTo (λ l. cells (tableRow area m l) i) k ≡ nearestCentroid x m k centroid i
   near i h =
       nearest-same (λ l. cells (tableRow area m l) i) (λ l. squared (x i) (centroid l) m) k
       (λ l q. ap (λ z. cells z i) (w l q) ∙ getD-listed (λ j. squared (x j) (centroid l) m) m i nan h)
 
   near-labels : {fresh : List ℕ} → fresh ≡ listed (λ i. nearestTo (λ l. cells (tableRow area m l) i) k .at) m → fresh ≡ labelsOf x m k centroid
   near-labels e =
-      e ∙ listed-same 0 (λ i. nearestTo (λ l. cells (tableRow area m l) i) k .at) (λ i. nearest x m k centroid i .at) m
+      e ∙ listed-same 0 (λ i. nearestTo (λ l. cells (tableRow area m l) i) k .at) (λ i. nearestCentroid x m k centroid i .at) m
       (λ i h. ap (λ b. b .at) (near i h))
 
   near-dists : {dists : List Float} → dists ≡ listed (λ i. nearestTo (λ l. cells (tableRow area m l) i) k .value) m → dists ≡ distsOf x m k centroid
   near-dists e =
-      e ∙ listed-same nan (λ i. nearestTo (λ l. cells (tableRow area m l) i) k .value) (λ i. nearest x m k centroid i .value) m
+      e ∙ listed-same nan (λ i. nearestTo (λ l. cells (tableRow area m l) i) k .value) (λ i. nearestCentroid x m k centroid i .value) m
       (λ i h. ap (λ b. b .value) (near i h))
 
 module _ (x : ℕ → ℕ → Float) (m : ℕ) (centres : List ℕ) where

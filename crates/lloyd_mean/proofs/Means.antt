@@ -8,11 +8,11 @@ use lib.ListN.{length, length-append, replicate, take}
 use lib.Seq.{take-at}
 use lib.Ieee.{Float, add, binary64, mul, nan}
 use Rattle.lists.specs.Sums.{foldIf, squareFrom, sumIf, sumTo, zero64}
-use Rattle.lists.specs.Lists.{cellAt, cells, grid, listed, row}
+use Rattle.lists.specs.Lists.{cellAt, cells, matrixOf, listed, row}
 use Rattle.distance_columns.specs.Columns.{columnAt, sumsFrom}
 use Rattle.lists.proofs.Sums.{fold-in, fold-out, sum-same}
 use Rattle.lists.proofs.Listed.{getD-listed, length-listed, listed-const, listed-length, listed-same}
-use Rattle.lists.proofs.Grid.{in-grid, row-cell}
+use Rattle.lists.proofs.Matrix.{in-matrix, row-cell}
 use Rattle.distance_columns.proofs.Flip.{square-flip}
 use Rattle.lloyd_mean.specs.Groups.{distances}
 use Rattle.distance_columns.specs.Pair.{squared}
@@ -44,7 +44,7 @@ scaled f n x {xs} e =
     (λ i h. ap (λ y. mul binary64 y x) (ap (λ z. cells z i) e ∙ getD-listed f n i nan h)))
 
 -- all the columns give the squared distances to the centroid that `own` is
-pub to-centroid : (x : ℕ → ℕ → Float) (h : ℕ → Float) (m : ℕ) {own across : List Float} → own ≡ listed h m → across ≡ grid (λ a b. x b a) m → sumsFrom own across 0 (length own) ≡ distances x m h
+pub to-centroid : (x : ℕ → ℕ → Float) (h : ℕ → Float) (m : ℕ) {own across : List Float} → own ≡ listed h m → across ≡ matrixOf (λ a b. x b a) m → sumsFrom own across 0 (length own) ≡ distances x m h
 to-centroid x h m {own} {across} p q =
     let n : m - 0 ≡ m = omega arith in
     rw (p, length-listed h m, n)
@@ -53,7 +53,7 @@ to-centroid x h m {own} {across} p q =
     let z : 0 + j ≡ j = omega arith in
     rw z
     (sum-same (λ k. squareFrom (columnAt across m j k) (cells (listed h m) k)) (λ k. squareFrom (h k) (x j k)) m
-    (λ k r. rw (in-grid (λ a b. x b a) m k j nan q r l, getD-listed h m k nan r) (square-flip (h k) (x j k))))))
+    (λ k r. rw (in-matrix (λ a b. x b a) m k j nan q r l, getD-listed h m k nan r) (square-flip (h k) (x j k))))))
 
 -- a part at the front of an array has come back
 pub front-fits : (p q : List Float) (m : ℕ) → length p ≡ m → m ≤ length (p ++ q)

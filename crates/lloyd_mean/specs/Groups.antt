@@ -5,7 +5,7 @@ use mathlib.Core.Path.{_≡_}
 use mathlib.Core.List.{List}
 use lib.ListN.{length}
 use lib.Ieee.{Float, mul, div, binary64}
-use Rattle.lists.specs.Lists.{listed, cellAt, grid}
+use Rattle.lists.specs.Lists.{listed, cellAt, matrixOf}
 use Rattle.lists.specs.Sums.{one64, counted, sumIf, inGroup, groupSize}
 use Rattle.distance_columns.specs.Pair.{squared}
 
@@ -24,4 +24,4 @@ distances x m centroid = listed (λ i. squared (x i) centroid m) m
 pub record Items (points across : List Float) (m : ℕ) : Type 0 where
   pub few : m ≤ 256
   pub size : length points ≡ m * m
-  pub turned : across ≡ grid (λ i j. cellAt points m j i) m
+  pub turned : across ≡ matrixOf (λ i j. cellAt points m j i) m

@@ -5,7 +5,7 @@ use mathlib.Core.Bool.{Bool, cond, false, true}
 use native.Mathlib.Omega.{arith}
 use lib.ListN.{length}
 use lib.Ieee.{Float}
-use Rattle.lloyd_pass.specs.Passes.{centroidsAt, labelsAt, lloydLabels, nearest, passes, convergesAt}
+use Rattle.lloyd_pass.specs.Passes.{centroidsAt, labelsAt, lloydLabels, nearestCentroid, passes, convergesAt}
 use lib.Dec.{eqb, ltb}
 use borrow.Author.Tests.{ne-eqb}
 use Rattle.distance_columns.specs.Pair.{squared}
@@ -33,7 +33,7 @@ module _ (x : ℕ → ℕ → Float) (m k : ℕ) (centre : ℕ → ℕ) (some : 
   pass-below : (t i : ℕ) → i < m → numbers (labelsAt x m k centre (suc t)) i < k
   unfolding labelsAt
   pass-below t i h =
-      rw (getD-listed (λ j. nearest x m k (centroidsAt x m k centre t) j .at) m i 0 h)
+      rw (getD-listed (λ j. nearestCentroid x m k (centroidsAt x m k centre t) j .at) m i 0 h)
       (nearest-below (λ l. squared (x i) (centroidsAt x m k centre t l) m) k k (omega arith) groups)
 
   start : numbers (labelsAt x m k centre 0) 0 ≡ k
@@ -62,7 +62,7 @@ module _ (x : ℕ → ℕ → Float) (m k : ℕ) (centre : ℕ → ℕ) (some : 
 by-pass : (x : ℕ → ℕ → Float) (m k : ℕ) (centre : ℕ → ℕ) (t : ℕ) → length (labelsAt x m k centre t) ≡ m
 unfolding labelsAt
 by-pass x m k centre zero = length-listed (λ i. k) m
-by-pass x m k centre (suc t) = length-listed (λ i. nearest x m k (centroidsAt x m k centre t) i .at) m
+by-pass x m k centre (suc t) = length-listed (λ i. nearestCentroid x m k (centroidsAt x m k centre t) i .at) m
 
 pub labels-length : (x : ℕ → ℕ → Float) (m k : ℕ) (centre : ℕ → ℕ) → length (lloydLabels x m k centre) ≡ m
 labels-length x m k centre = by-pass x m k centre (passes x m k centre)

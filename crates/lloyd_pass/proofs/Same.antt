@@ -4,7 +4,7 @@ use mathlib.Core.Path.{_∙_, _≡_, ap, refl, sym}
 use mathlib.Core.Bool.{Bool, cond, false, true}
 use native.Mathlib.Omega.{arith}
 use lib.Ieee.{Float, nan}
-use Rattle.lloyd_pass.specs.Passes.{centroidsAt, distsOf, labelsAt, labelsOf, lloydEnded, lloydLabels, moved, nearest, passes, convergesAt, taken, takesItem}
+use Rattle.lloyd_pass.specs.Passes.{centroidsAt, distsOf, labelsAt, labelsOf, lloydEnded, lloydLabels, moved, nearestCentroid, passes, convergesAt, taken, takesItem}
 use lib.Dec.{eqb, ltb}
 use Rattle.lloyd_mean.specs.Groups.{mean}
 use Rattle.distance_columns.specs.Pair.{squared}
@@ -28,16 +28,16 @@ cond-at false f g c = refl
 module _ (x y : ℕ → ℕ → Float) (m k : ℕ) (centre : ℕ → ℕ) (agree : (i c : ℕ) → i < m → c < m → x i c ≡ y i c) (items : (l : ℕ) → l < k → centre l < m) where
   -- centroids that agree give the same nearest
   module _ (f g : ℕ → ℕ → Float) (e : (l c : ℕ) → l < k → c < m → f l c ≡ g l c) where
-    near : (i : ℕ) → i < m → nearest x m k f i ≡ nearest y m k g i
+    near : (i : ℕ) → i < m → nearestCentroid x m k f i ≡ nearestCentroid y m k g i
     near i h =
         nearest-same (λ l. squared (x i) (f l) m) (λ l. squared (y i) (g l) m) k
         (λ l q. squared-agree (x i) (y i) (f l) (g l) m (λ c b. agree i c h b) (λ c b. e l c q b))
 
     labels-of : labelsOf x m k f ≡ labelsOf y m k g
-    labels-of = listed-same 0 (λ i. nearest x m k f i .at) (λ i. nearest y m k g i .at) m (λ i h. ap (λ b. b .at) (near i h))
+    labels-of = listed-same 0 (λ i. nearestCentroid x m k f i .at) (λ i. nearestCentroid y m k g i .at) m (λ i h. ap (λ b. b .at) (near i h))
 
     dists-of : distsOf x m k f ≡ distsOf y m k g
-    dists-of = listed-same nan (λ i. nearest x m k f i .value) (λ i. nearest y m k g i .value) m (λ i h. ap (λ b. b .value) (near i h))
+    dists-of = listed-same nan (λ i. nearestCentroid x m k f i .value) (λ i. nearestCentroid y m k g i .value) m (λ i h. ap (λ b. b .value) (near i h))
 
   -- the next centroids
   moved-same : (label : ℕ → ℕ) (dist : ℕ → Float) (l c : ℕ) → c < m → moved x label dist m l c ≡ moved y label dist m l c

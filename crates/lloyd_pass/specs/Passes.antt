@@ -30,15 +30,15 @@ abbrev pub moved : (ℕ → ℕ → Float) → (ℕ → ℕ) → (ℕ → Float)
 moved x label dist m l = cond (eqb (groupSize label m l) 0) (x (takesItem label dist m l)) (mean x label m l)
 
 -- the nearest of k centroids to item i, the lowest label of equals, with its squared distance; label 0 if no distance is below infinity
-abbrev pub nearest : (ℕ → ℕ → Float) → ℕ → ℕ → (ℕ → ℕ → Float) → ℕ → Best
-nearest x m k centroid i = nearestTo (λ l. squared (x i) (centroid l) m) k
+abbrev pub nearestCentroid : (ℕ → ℕ → Float) → ℕ → ℕ → (ℕ → ℕ → Float) → ℕ → Best
+nearestCentroid x m k centroid i = nearestTo (λ l. squared (x i) (centroid l) m) k
 
 -- the labels of a pass, and the distances that go with them
 abbrev pub labelsOf : (ℕ → ℕ → Float) → ℕ → ℕ → (ℕ → ℕ → Float) → List ℕ
-labelsOf x m k centroid = listed (λ i. nearest x m k centroid i .at) m
+labelsOf x m k centroid = listed (λ i. nearestCentroid x m k centroid i .at) m
 
 abbrev pub distsOf : (ℕ → ℕ → Float) → ℕ → ℕ → (ℕ → ℕ → Float) → List Float
-distsOf x m k centroid = listed (λ i. nearest x m k centroid i .value) m
+distsOf x m k centroid = listed (λ i. nearestCentroid x m k centroid i .value) m
 
 -- the centroids after t passes
 unfoldable pub centroidsAt : (ℕ → ℕ → Float) → ℕ → ℕ → (ℕ → ℕ) → ℕ → ℕ → ℕ → Float

@@ -12,14 +12,14 @@ use lib.Ieee.{Float, binary64, fits, nan}
 use lib.Dec.{T}
 use Rattle.lloyd_nearest.specs.Nearest.{nearestTo}
 use Rattle.lloyd_mean.specs.Groups.{Items, distances}
-use Rattle.lists.specs.Lists.{cellAt, cells, grid, listed, part, row}
+use Rattle.lists.specs.Lists.{cellAt, cells, matrixOf, listed, part, row}
 use Rattle.distance_columns.specs.Pair.{squaredAt}
 use Rattle.distance_columns.specs.Columns.{pointsAt}
 use Rattle.lloyd_nearest.proofs.Steps.{nearest-same}
 use Rattle.lists.proofs.Parts.{part-drop, part-front, put-after, put-before, put-part, put-take}
 use Rattle.lists.proofs.Areas.{listed-part}
 use Rattle.lists.proofs.Listed.{listed-same}
-use Rattle.lists.proofs.Grid.{cell-below, row-grid}
+use Rattle.lists.proofs.Matrix.{cell-below, row-matrix}
 use Rattle.lists.proofs.Rows.{row-end}
 use Rattle.distance_columns.proofs.Flip.{squared-flip}
 use Rattle.lloyd_table.specs.Area.{Held, tableRow, withRow}
@@ -42,8 +42,8 @@ held-kept m a d l e h =
       some = h .some;
       few = h .few;
       size = l ∙ h .size;
-      across = part-front (4 * (m * m)) (m * m) (m * m) a d (omega arith) e ∙ h .across ∙ ap (λ (p : List Float). grid (λ i j. cellAt p m j i) m) (sym f);
-      squares = part-front (4 * (m * m)) (2 * (m * m)) (m * m) a d (omega arith) e ∙ h .squares ∙ ap (λ (p : List Float). grid (squaredAt (cellAt p m) m) m) (sym f);
+      across = part-front (4 * (m * m)) (m * m) (m * m) a d (omega arith) e ∙ h .across ∙ ap (λ (p : List Float). matrixOf (λ i j. cellAt p m j i) m) (sym f);
+      squares = part-front (4 * (m * m)) (2 * (m * m)) (m * m) a d (omega arith) e ∙ h .squares ∙ ap (λ (p : List Float). matrixOf (squaredAt (cellAt p m) m) m) (sym f);
     }
 
 module _ {area : List Float} {m : ℕ} (h : Held area m) where
@@ -61,7 +61,7 @@ module _ {area : List Float} {m : ℕ} (h : Held area m) where
   unfolding squaredAt
   pair-row j l =
       sym (row-part (2 * (m * m)) (m * m) m j area (row-end j m l))
-      ∙ row-grid nan (squaredAt (pointsAt area m) m) m j (h .squares) l
+      ∙ row-matrix nan (squaredAt (pointsAt area m) m) m j (h .squares) l
       ∙ listed-same nan (squaredAt (pointsAt area m) m j) (λ i. squaredAt (pointsAt area m) m i j) m (λ i q. squared-flip (pointsAt area m) m j i)
 
   -- the same by its cells, one after the other

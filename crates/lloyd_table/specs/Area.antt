@@ -8,7 +8,7 @@ use mathlib.Core.List.{List}
 use lib.Dec.{eqb}
 use lib.ListN.{length, take, set}
 use lib.Ieee.{Float, inf}
-use Rattle.lists.specs.Lists.{numbers, part, put, grid}
+use Rattle.lists.specs.Lists.{numbers, part, put, matrixOf}
 use Rattle.lists.specs.Sums.{groupSize}
 use Rattle.distance_columns.specs.Pair.{squaredAt}
 use Rattle.distance_columns.specs.Columns.{pointsAt}
@@ -21,8 +21,8 @@ pub record Held (area : List Float) (m : ℕ) : Type 0 where
   pub some : 0 < m
   pub few : m ≤ 256
   pub size : length area ≡ 5 * (m * m)
-  pub across : part (m * m) (m * m) area ≡ grid (λ i j. pointsAt area m j i) m
-  pub squares : part (2 * (m * m)) (m * m) area ≡ grid (squaredAt (pointsAt area m) m) m
+  pub across : part (m * m) (m * m) area ≡ matrixOf (λ i j. pointsAt area m j i) m
+  pub squares : part (2 * (m * m)) (m * m) area ≡ matrixOf (squaredAt (pointsAt area m) m) m
 
 -- centres: items, at most m of them
 pub record Centres (centres : List ℕ) (m : ℕ) : Type 0 where

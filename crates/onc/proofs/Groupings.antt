@@ -9,10 +9,10 @@ use native.Mathlib.Decide.{decLt}
 use lib.ListN.{length, drop, List·getD-eq-default}
 use lib.Seq.{drop-drop}
 use lib.Ieee.{Float, nan}
-use Rattle.lists.specs.Lists.{numbers, cellAt, flat, grid}
+use Rattle.lists.specs.Lists.{numbers, cellAt, flat, matrixOf}
 use Rattle.lists.proofs.Listed.{length-listed, getD-listed}
-use Rattle.lists.proofs.Grid.{grid-at}
-use Rattle.distance.specs.Distance.{through, distAt}
+use Rattle.lists.proofs.Matrix.{matrix-at}
+use Rattle.distance.specs.Distance.{cellThrough, distAt}
 use Rattle.draws.specs.Draws.{Drawn, drawn, refused}
 use Rattle.draws.specs.declared.Stop.the-variants.{Rounds, Short, DrawOutOfRange, ClusteringFailed}
 use Rattle.partition.specs.Partition.{Partition, State, has, labelOf, joined, groupAt}
@@ -46,9 +46,9 @@ no-size n gs g h =
     (λ i. let far : length (sizesOf n gs) ≤ g = omega (arith, length-listed (λ k. length (groupAt gs k)) n) in List·getD-eq-default (sizesOf n gs) 0 far)
 
 -- the ordered matrix
-ordered-at : (book : List Float) (n : ℕ) (order : List ℕ) (i j : ℕ) → i < n → j < n → cellAt (grid (through book n order) n) n i j ≡ cellAt book n (numbers order i) (numbers order j)
-unfolding through
-ordered-at book n order i j h l = grid-at (through book n order) n i j nan h l
+ordered-at : (book : List Float) (n : ℕ) (order : List ℕ) (i j : ℕ) → i < n → j < n → cellAt (matrixOf (cellThrough book n order) n) n i j ≡ cellAt book n (numbers order i) (numbers order j)
+unfolding cellThrough
+ordered-at book n order i j h l = matrix-at (cellThrough book n order) n i j nan h l
 
 -- the label of a name is the number of its group
 label-at : (book : List Float) (n : ℕ) (s : State) (ms : List ℕ) (read : ℕ) (rest : List ℕ) (l : Lists) → Partition n (s .groups) → (g i : ℕ)
@@ -75,7 +75,7 @@ ran-grouping book n s ms read rest l p scores =
       order-long = partition-length p;
       sizes = refl;
       scores = scores;
-      ordered-long = length-listed (flat (through book n (joined (s .groups))) n) (n * n);
+      ordered-long = length-listed (flat (cellThrough book n (joined (s .groups))) n) (n * n);
       matrix = ordered-at book n (joined (s .groups));
     }
 

@@ -9,7 +9,7 @@ use lib.Dec.{eqb, ltb, leb}
 use lib.ListN.{length}
 use lib.Ieee.{Float}
 use Rattle.lists.proofs.Tests.{impossible, both, neither}
-use Rattle.refusals.specs.Table.{Refusal, none, refused, when, unless, refusal, workDoubles, workNumbers}
+use Rattle.refusals.specs.Table.{Refusal, none, refused, whenever, unless, refusal, workDoubles, workNumbers}
 use Rattle.refusals.proofs.Laws.{when-none, unless-none, accepted, fits-asked}
 use Rattle.onc_checks.specs.Checks.{listsFit, shapeOf}
 use Rattle.onc_run.specs.Run.{Lists}
@@ -21,8 +21,8 @@ abbrev pub Of : (ℕ → Type 0) → Refusal → Type 0
 Of P q = eqb (q .number) 0 ≡ false → P (q .number)
 
 module _ (P : ℕ → Type 0) where
-  when-of : (test : Bool) (q below : Refusal) → (test ≡ true → P (q .number)) → (test ≡ false → Of P below) → Of P (when test q below)
-  unfolding when
+  when-of : (test : Bool) (q below : Refusal) → (test ≡ true → P (q .number)) → (test ≡ false → Of P below) → Of P (whenever test q below)
+  unfolding whenever
   when-of true q below h k = λ e. h refl
   when-of false q below h k = k refl
 
@@ -31,13 +31,13 @@ module _ (P : ℕ → Type 0) where
   unless-of true q below h k = k refl
   unless-of false q below h k = λ e. h refl
 
-  last-of : (q : Refusal) → Of P (when (ltb 0 0) q none)
-  unfolding when
+  last-of : (q : Refusal) → Of P (whenever (ltb 0 0) q none)
+  unfolding whenever
   last-of q e = impossible (sym e)
 
 -- a row that gives no place, above rows that give none
-when-place : (test : Bool) (q below : Refusal) → q .place ≡ 0 → below .place ≡ 0 → when test q below .place ≡ 0
-unfolding when
+when-place : (test : Bool) (q below : Refusal) → q .place ≡ 0 → below .place ≡ 0 → whenever test q below .place ≡ 0
+unfolding whenever
 when-place true q below h k = h
 when-place false q below h k = k
 
@@ -130,7 +130,7 @@ module _ (book : List Float) (rows cols repeat : ℕ) (l : Lists) where
 
 -- and what is within them is not refused
 pub within-shape : (book : List Float) (n repeat : ℕ) (l : Lists) → Within book n repeat l → shape book n n repeat l ≡ none
-unfolding shapeOf refusal when unless
+unfolding shapeOf refusal whenever unless
 within-shape book n repeat l w =
     let some : repeat ≡ 0 → ⊥ = λ e. let y : ⊥ = omega (arith, w .limits .some) in y in
     rw (

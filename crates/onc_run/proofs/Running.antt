@@ -6,12 +6,12 @@ use native.Mathlib.Omega.{arith}
 use lib.ListN.{length, take, drop, replicate}
 use lib.Seq.{length-take-le, length-front, getD-take, take-at, drop-at}
 use lib.Ieee.{Float}
-use Rattle.lists.specs.Lists.{listed, numbers, grid}
+use Rattle.lists.specs.Lists.{listed, numbers, matrixOf}
 use Rattle.lists.specs.Sums.{zero64}
 use Rattle.lists.proofs.Listed.{getD-listed}
 use Rattle.lists.proofs.Parts.{drop-behind}
 use Rattle.refusals.specs.Table.{workDoubles, workNumbers, wiped, wipedNumbers}
-use Rattle.distance.specs.Distance.{through}
+use Rattle.distance.specs.Distance.{cellThrough}
 use Rattle.draws.specs.declared.Stop.{Stop}
 use Rattle.round_top.specs.declared.Top.{Top}
 use Rattle.round_top.specs.declared.Top.the-variants.{Done, Stopped as Ended}
@@ -117,14 +117,14 @@ module _ (book : List Float) (n : ℕ) (r : Run) (l : Lists) {a : Top} {order si
         by (done t ms read rest) ea eo es ec = let z : _≡_ {A = ℕ} 0 1 = cc in let y : ⊥ = omega arith in absurd y
         by (ended q ms) ea eo es ec = let z : q ≡ s = cc in rw (eo, es, ec, floats-wiped, numbers-wiped, z) refl
 
-    pub left-grouped : (groups read : ℕ) {ordered : List Float} → a ≡ Done groups read → length order ≡ n → ordered ≡ grid (through book n order) (length order)
+    pub left-grouped : (groups read : ℕ) {ordered : List Float} → a ≡ Done groups read → length order ≡ n → ordered ≡ matrixOf (cellThrough book n order) (length order)
         → _≡_ {A = Outcome}
         (record { answer = answerOf (Grouped groups read); lists = record { order = order; sizes = sizes; scores = scores; ordered = ordered; floats = floats′; numbers = wi′ } })
         (ran book n r l)
     left-grouped groups read {ordered} is long cells = by r (h .answer-is) (h .ordered) (h .sized) (h .scored)
       where
-        matrix : ordered ≡ grid (through book n order) n
-        matrix = cells ∙ ap (grid (through book n order)) long
+        matrix : ordered ≡ matrixOf (cellThrough book n order) n
+        matrix = cells ∙ ap (matrixOf (cellThrough book n order)) long
 
         by : (r : Run) → a ≡ topOf r → order ≡ orderAfter r (l .order) → sizes ≡ sizesAfter n r (l .sizes) → scores ≡ scoresAfter r (l .scores)
             → _≡_ {A = Outcome}

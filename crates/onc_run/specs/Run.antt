@@ -5,9 +5,9 @@ use mathlib.Core.Path.{_≡_}
 use mathlib.Core.List.{List}
 use lib.ListN.{length}
 use lib.Ieee.{Float}
-use Rattle.lists.specs.Lists.{listed, grid}
+use Rattle.lists.specs.Lists.{listed, matrixOf}
 use Rattle.refusals.specs.Table.{none, workDoubles, workNumbers, wiped, wipedNumbers}
-use Rattle.distance.specs.Distance.{through}
+use Rattle.distance.specs.Distance.{cellThrough}
 use Rattle.draws.specs.Stops.{stopNumber, stopPlace}
 use Rattle.partition.specs.Partition.{joined}
 use Rattle.partition.specs.Orders.{sizesOf}
@@ -57,7 +57,7 @@ leftBy book n (done s ms read rest) l =
       order = joined (s .groups);
       sizes = sizesOf n (s .groups);
       scores = s .scores;
-      ordered = grid (through book n (joined (s .groups))) n;
+      ordered = matrixOf (cellThrough book n (joined (s .groups))) n;
       floats = wiped n (l .floats);
       numbers = wipedNumbers n (l .numbers);
     }

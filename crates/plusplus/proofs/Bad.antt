@@ -12,7 +12,7 @@ use Rattle.lists.specs.Sums.{sumTo}
 use Rattle.lists.proofs.Listed.{getD-listed, listed-same}
 use Rattle.lists.proofs.Sums.{sum-same}
 use Rattle.draws.specs.Counts.{trialsOf, seedingOf}
-use Rattle.draws.specs.Draws.{Drawn, drawn, refused, one, andThen}
+use Rattle.draws.specs.Draws.{Drawn, drawn, refused, oneDraw, andThen}
 use Rattle.draws.proofs.Counting.{trials-some}
 use Rattle.draws.proofs.Taken.{Ends, took}
 use Rattle.draws.proofs.Bad.{Reads, Above, reads-map, then-reads, takes-bad, Stops, then-stops, takes-out}
@@ -114,7 +114,7 @@ pub seeding-bad : (q : ℕ → ℕ → Float) (m k : ℕ) (draws : List ℕ) (at
 unfolding seeding
 seeding-bad q m k draws at l =
     then-reads draws (at + 1) (at + seedingOf k) (Above m at 1 draws) (OutOfRange q m k at draws)
-    (one m at (drop at draws)) (λ c rest. centresOf q m t (k - 1) (listed (q c) m) (c ∷ []) (at + 1) rest)
+    (oneDraw m at (drop at draws)) (λ c rest. centresOf q m t (k - 1) (listed (q c) m) (c ∷ []) (at + 1) rest)
     (takes-bad m (λ s d. d) draws 1 0 at (omega arith))
     (λ c e.
     reads-map draws (at + 1 + (k - 1) * t) (at + seedingOf k) (OfTrial q m t (k - 1) (listed (q c) m) (c ∷ []) (at + 1) draws) (OutOfRange q m k at draws)
@@ -126,7 +126,7 @@ seeding-bad q m k draws at l =
     t : ℕ
     t = trialsOf k
 
-    of-trial : (c : ℕ) → one m at (drop at draws) ≡ drawn c (drop (at + 1) draws) → (p : ℕ) → OfTrial q m (trialsOf k) (k - 1) (listed (q c) m) (c ∷ []) (at + 1) draws p
+    of-trial : (c : ℕ) → oneDraw m at (drop at draws) ≡ drawn c (drop (at + 1) draws) → (p : ℕ) → OfTrial q m (trialsOf k) (k - 1) (listed (q c) m) (c ∷ []) (at + 1) draws p
         → OutOfRange q m k at draws p
     of-trial c e p o =
         let is : firstCentres q m k (o .turn) at (drop at draws) ≡ drawn (o .centres) (drop (at + 1 + o .turn * trialsOf k) draws) = rw e (o .chosen) in
@@ -178,9 +178,9 @@ module _ (q : ℕ → ℕ → Float) (m k : ℕ) (draws : List ℕ) (at : ℕ) w
   pub seeding-out : 0 < m → {p : ℕ} → OutOfRange q m k at draws p → Stops p (seeding q m k at (drop at draws))
   unfolding seeding
   seeding-out z (first b) =
-      then-stops at (one m at (drop at draws)) (λ c rest. centresOf q m (trialsOf k) (k - 1) (listed (q c) m) (c ∷ []) (at + 1) rest)
+      then-stops at (oneDraw m at (drop at draws)) (λ c rest. centresOf q m (trialsOf k) (k - 1) (listed (q c) m) (c ∷ []) (at + 1) rest)
       (takes-out m (λ s d. d) draws 1 0 at at (omega arith, omega arith, b))
-  seeding-out z (trial j i cs turn which d b) = by-first (one m at (drop at draws)) (took m (λ s d. d) (λ d. Unit) (λ s d h g. tt) 1 0 at (drop at draws) tt) d
+  seeding-out z (trial j i cs turn which d b) = by-first (oneDraw m at (drop at draws)) (took m (λ s d. d) (λ d. Unit) (λ s d h g. tt) 1 0 at (drop at draws) tt) d
     where
       by-first : (D : Drawn ℕ) → Ends (λ c rest. Unit × (rest ≡ drop 1 (drop at draws)) × (1 ≤ length (drop at draws))) (λ p. (at ≤ p) × (p < at + 1)) D
           → andThen D (λ c rest. centresOf q m (trialsOf k) j (listed (q c) m) (c ∷ []) (at + 1) rest) ≡ drawn cs (drop (at + 1 + j * trialsOf k) draws)

@@ -4,11 +4,11 @@ use mathlib.Core.Path.{_≡_, refl, _∙_, ap}
 use mathlib.Core.List.{List, [], _∷_, _++_}
 use lib.ListN.{length, drop}
 use lib.Ieee.{Float, nan}
-use Rattle.lists.specs.Lists.{cells, listed, grid}
+use Rattle.lists.specs.Lists.{cells, listed, matrixOf}
 use Rattle.lists.proofs.Listed.{listed-same}
-use Rattle.lists.proofs.Grid.{row-cell, in-grid}
+use Rattle.lists.proofs.Matrix.{row-cell, in-matrix}
 use Rattle.draws.specs.Counts.{trialsOf}
-use Rattle.draws.specs.Draws.{one}
+use Rattle.draws.specs.Draws.{oneDraw}
 use Rattle.draws.proofs.Counting.{trials-some}
 use Rattle.draws.proofs.Taken.{one-took, then-same}
 use Rattle.plusplus_pick.specs.Potentials.{lesserNumber, with}
@@ -34,7 +34,7 @@ module _ (q q′ : ℕ → ℕ → Float) (m : ℕ) (z : 0 < m) (same : (p i : �
   pub seeding-same : (k at : ℕ) (ds : List ℕ) → seeding q m k at ds ≡ seeding q′ m k at ds
   unfolding seeding
   seeding-same k at ds =
-      then-same (λ d rest. (d < m) × (rest ≡ drop 1 ds) × (1 ≤ length ds)) (λ p. (at ≤ p) × (p < at + 1)) (one m at ds)
+      then-same (λ d rest. (d < m) × (rest ≡ drop 1 ds) × (1 ≤ length ds)) (λ p. (at ≤ p) × (p < at + 1)) (oneDraw m at ds)
       (λ c rest. centresOf q m (trialsOf k) (k - 1) (listed (q c) m) (c ∷ []) (at + 1) rest)
       (λ c rest. centresOf q′ m (trialsOf k) (k - 1) (listed (q′ c) m) (c ∷ []) (at + 1) rest)
       (one-took m at ds z)
@@ -43,7 +43,7 @@ module _ (q q′ : ℕ → ℕ → Float) (m : ℕ) (z : 0 < m) (same : (p i : �
       (centres-same (trialsOf k) (trials-some k) (k - 1) (listed (q′ c) m) (c ∷ []) (at + 1) rest))
 
 -- a table that is a matrix by its cells gives the seeding of that matrix
-pub seeding-grid : (x : ℕ → ℕ → Float) (m k at : ℕ) (ds : List ℕ) {squares : List Float} → 0 < m → squares ≡ grid x m
+pub seeding-matrix : (x : ℕ → ℕ → Float) (m k at : ℕ) (ds : List ℕ) {squares : List Float} → 0 < m → squares ≡ matrixOf x m
     → seeding (table squares m) m k at ds ≡ seeding x m k at ds
-seeding-grid x m k at ds {squares} z e =
-    seeding-same (table squares m) x m z (λ p i h l. row-cell nan squares m p i l ∙ in-grid x m p i nan e h l) k at ds
+seeding-matrix x m k at ds {squares} z e =
+    seeding-same (table squares m) x m z (λ p i h l. row-cell nan squares m p i l ∙ in-matrix x m p i nan e h l) k at ds

@@ -11,30 +11,30 @@ use Rattle.lists.specs.Lists.{cells, listed}
 use Rattle.draws.specs.declared.Stop.{Stop}
 use Rattle.draws.specs.declared.Stop.the-variants.{DrawOutOfRange}
 use Rattle.draws.specs.Counts.{trialsOf, seedingOf}
-use Rattle.draws.specs.Draws.{Drawn, drawn, refused, one}
+use Rattle.draws.specs.Draws.{Drawn, drawn, refused, oneDraw}
 use Rattle.draws.proofs.Counting.{trials-some}
 use Rattle.draws.proofs.Taken.{Ends, Among, behind, take-behind, then-ends, then-behind, ends-map, one-took}
 use Rattle.plusplus_pick.specs.Potentials.{with}
 use Rattle.plusplus_trials.specs.Trials.{nextOf}
 use Rattle.plusplus_trials.proofs.Centring.{next-took, next-behind}
 use Rattle.plusplus.specs.declared.Seeded.the-variants.{Done, Stopped}
-use Rattle.plusplus.specs.Seeding.{centresOf, seeding, Below, SeededBy}
+use Rattle.plusplus.specs.Seeding.{centresOf, seeding, AllBelow, SeededBy}
 
-below-one : (m c : ℕ) → c < m → Below m (c ∷ [])
+below-one : (m c : ℕ) → c < m → AllBelow m (c ∷ [])
 below-one m c h zero l = h
 below-one m c h (suc i) l = absurd (omega arith)
 
-below-snoc : (m c : ℕ) (cs : List ℕ) → c < m → Below m cs → Below m (cs ++ (c ∷ []))
+below-snoc : (m c : ℕ) (cs : List ℕ) → c < m → AllBelow m cs → AllBelow m (cs ++ (c ∷ []))
 below-snoc m c [] h b i l = below-one m c h i l
 below-snoc m c (x ∷ cs) h b zero l = b 0 (omega arith)
 below-snoc m c (x ∷ cs) h b (suc i) l = below-snoc m c cs h (λ j k. b (suc j) (omega arith)) i (omega arith)
 
 -- what holds of n centres, once c draws have been taken
 abbrev Took : ℕ → ℕ → ℕ → List ℕ → List ℕ → List ℕ → Type 0
-Took m n c ds cs rest = (length cs ≡ n) × Below m cs × (rest ≡ drop c ds) × (c ≤ length ds)
+Took m n c ds cs rest = (length cs ≡ n) × AllBelow m cs × (rest ≡ drop c ds) × (c ≤ length ds)
 
 module _ (q : ℕ → ℕ → Float) (m t : ℕ) (z : 0 < m) (some : 0 < t) where
-  centres-took : (j : ℕ) (ws : List Float) (cs : List ℕ) (at : ℕ) (ds : List ℕ) → Below m cs
+  centres-took : (j : ℕ) (ws : List Float) (cs : List ℕ) (at : ℕ) (ds : List ℕ) → AllBelow m cs
       → Ends (Took m (length cs + j) (j * t) ds) (Among at (j * t)) (centresOf q m t j ws cs at ds)
   unfolding centresOf
   centres-took zero ws cs at ds b = (omega arith, b, rw (zero-mul t) refl, rw (zero-mul t) zero-le)
@@ -68,12 +68,12 @@ module _ (q : ℕ → ℕ → Float) (m t : ℕ) (z : 0 < m) (some : 0 < t) wher
 module _ (q : ℕ → ℕ → Float) (m k : ℕ) (z : 0 < m) (one-of : 0 < k) where
   -- A seeding that is not refused gives k centres, each an item, and takes exactly its count of draws; a draw out of range stands among those.
   pub seeding-took : (at : ℕ) (ds : List ℕ)
-      → Ends (λ cs rest. (length cs ≡ k) × Below m cs × (rest ≡ drop (seedingOf k) ds) × (seedingOf k ≤ length ds)) (λ p. (at ≤ p) × (p < at + seedingOf k)) (seeding q m k at ds)
+      → Ends (λ cs rest. (length cs ≡ k) × AllBelow m cs × (rest ≡ drop (seedingOf k) ds) × (seedingOf k ≤ length ds)) (λ p. (at ≤ p) × (p < at + seedingOf k)) (seeding q m k at ds)
   unfolding seeding
   seeding-took at ds =
       then-ends (λ d rest. (d < m) × (rest ≡ drop 1 ds) × (1 ≤ length ds)) (λ p. (at ≤ p) × (p < at + 1))
       (Took m k (seedingOf k) ds) (Among at (seedingOf k))
-      (one m at ds) (λ c rest. centresOf q m (trialsOf k) (k - 1) (listed (q c) m) (c ∷ []) (at + 1) rest)
+      (oneDraw m at ds) (λ c rest. centresOf q m (trialsOf k) (k - 1) (listed (q c) m) (c ∷ []) (at + 1) rest)
       (one-took m at ds z)
       (λ c rest h.
       ends-map (Took m (1 + (k - 1)) ((k - 1) * trialsOf k) rest) (Among (at + 1) ((k - 1) * trialsOf k)) (Took m k (seedingOf k) ds) (Among at (seedingOf k))
@@ -89,7 +89,7 @@ module _ (q : ℕ → ℕ → Float) (m k : ℕ) (z : 0 < m) (one-of : 0 < k) wh
   seeding-behind at p b l =
       rw (take-behind m (λ s d. d) 1 0 at p b (omega arith))
       (then-behind (λ d rest. (d < m) × (rest ≡ drop 1 p) × (1 ≤ length p)) (λ y. (at ≤ y) × (y < at + 1))
-      (one m at p) (λ c rest. centresOf q m (trialsOf k) (k - 1) (listed (q c) m) (c ∷ []) (at + 1) rest) b
+      (oneDraw m at p) (λ c rest. centresOf q m (trialsOf k) (k - 1) (listed (q c) m) (c ∷ []) (at + 1) rest) b
       (one-took m at p z)
       (λ c rest h. centres-behind q m (trialsOf k) z (trials-some k) (k - 1) (listed (q c) m) (c ∷ []) (at + 1) rest b (omega (arith, ap length (h .1) ∙ length-drop 1 p))))
 
@@ -116,7 +116,7 @@ stopped-is (refused p) {next} {q} {l} s =
 
 module _ (q : ℕ → ℕ → Float) (m k : ℕ) (z : 0 < m) (one-of : 0 < k) (at : ℕ) (ds : List ℕ) (next : ℕ) (l : List ℕ) where
   pub seed-done : {n : ℕ} → SeededBy (seeding q m k at ds) next (Done n) l
-      → (n ≡ next) × (length l ≡ k) × Below m l × (seeding q m k at ds ≡ drawn l (drop (seedingOf k) ds)) × (seedingOf k ≤ length ds)
+      → (n ≡ next) × (length l ≡ k) × AllBelow m l × (seeding q m k at ds ≡ drawn l (drop (seedingOf k) ds)) × (seedingOf k ≤ length ds)
   seed-done s =
       let v = done-is (seeding q m k at ds) s in
       let t = subst (Ends (Took m k (seedingOf k) ds) (Among at (seedingOf k))) (v .2) (seeding-took q m k z one-of at ds) in

@@ -7,7 +7,7 @@ use lib.Ieee.{Float}
 use Rattle.lists.specs.Lists.{cells}
 use Rattle.lists.specs.Sums.{sumTo}
 use Rattle.lists.proofs.Sums.{sum-same}
-use Rattle.draws.specs.Draws.{takes, one}
+use Rattle.draws.specs.Draws.{takes, oneDraw}
 use Rattle.draws.proofs.Taken.{one-took, takes-same, then-same}
 use Rattle.plusplus_pick.specs.Potentials.{running, lesserNumber, with, limit, pick, tried, better, trial}
 use Rattle.plusplus_trials.specs.Trials.{against, bestTrial, nextOf}
@@ -25,7 +25,7 @@ module _ (q q′ : ℕ → ℕ → Float) (m : ℕ) (z : 0 < m) (same : (p i : �
   best-same : (w : ℕ → Float) (total : Float) (more at : ℕ) (ds : List ℕ) → bestTrial q w total m more at ds ≡ bestTrial q′ w total m more at ds
   unfolding bestTrial
   best-same w total more at ds =
-      then-same (λ d rest. (d < limit total m) × (rest ≡ drop 1 ds) × (1 ≤ length ds)) (λ p. (at ≤ p) × (p < at + 1)) (one (limit total m) at ds)
+      then-same (λ d rest. (d < limit total m) × (rest ≡ drop 1 ds) × (1 ≤ length ds)) (λ p. (at ≤ p) × (p < at + 1)) (oneDraw (limit total m) at ds)
       (λ d rest. takes (limit total m) (against q w total m) more (trial q w total m d) (at + 1) rest)
       (λ d rest. takes (limit total m) (against q′ w total m) more (trial q′ w total m d) (at + 1) rest)
       (one-took (limit total m) at ds (limit-some total m z))

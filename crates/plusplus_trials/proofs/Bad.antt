@@ -11,7 +11,7 @@ use lib.Seq.{drop-drop}
 use lib.Ieee.{Float}
 use Rattle.lists.specs.Lists.{cells}
 use Rattle.lists.specs.Sums.{sumTo}
-use Rattle.draws.specs.Draws.{takes, one}
+use Rattle.draws.specs.Draws.{takes, oneDraw}
 use Rattle.draws.proofs.Taken.{then-ends, took}
 use Rattle.draws.proofs.Bad.{Reads, Above, reads-map, then-reads, takes-bad, Stops, then-stops, takes-out}
 use Rattle.plusplus_pick.specs.Potentials.{limit, trial}
@@ -24,7 +24,7 @@ next-bad q m t some ws draws at l =
     let total = sumTo (cells ws) m in
     let most = limit total m in
     then-reads draws (at + 1) (at + t) (Above most at 1 draws) (Above most at t draws)
-    (one most at (drop at draws)) (λ d rest. takes most (against q (cells ws) total m) (t - 1) (trial q (cells ws) total m d) (at + 1) rest)
+    (oneDraw most at (drop at draws)) (λ d rest. takes most (against q (cells ws) total m) (t - 1) (trial q (cells ws) total m d) (at + 1) rest)
     (takes-bad most (λ s d. d) draws 1 0 at (omega arith))
     (λ d e.
     reads-map draws (at + 1 + (t - 1)) (at + t) (Above most (at + 1) (t - 1) draws) (Above most at t draws)
@@ -40,14 +40,14 @@ next-out q m t ws draws at p b =
     by-cases (decLt at p)
     (λ l.
     then-ends (λ d rest. Unit × (rest ≡ drop 1 (drop at draws)) × (1 ≤ length (drop at draws))) (λ y. (at ≤ y) × (y < at + 1)) (λ x rest. ⊥) (λ y. y ≤ p)
-    (one most at (drop at draws)) (λ d rest. takes most (against q (cells ws) total m) (t - 1) (trial q (cells ws) total m d) (at + 1) rest)
+    (oneDraw most at (drop at draws)) (λ d rest. takes most (against q (cells ws) total m) (t - 1) (trial q (cells ws) total m d) (at + 1) rest)
     (took most (λ s d. d) (λ d. Unit) (λ s d h g. tt) 1 0 at (drop at draws) tt)
     (λ d rest h.
     subst (λ (r : List ℕ). Stops p (takes most (against q (cells ws) total m) (t - 1) (trial q (cells ws) total m d) (at + 1) r)) (sym (h .1 ∙ drop-drop 1 at draws))
     (takes-out most (against q (cells ws) total m) draws (t - 1) (trial q (cells ws) total m d) (at + 1) p (omega arith, omega (arith, b .1), b .2)))
     (λ y h. omega (arith, h .1)))
     (λ n.
-    then-stops p (one most at (drop at draws)) (λ d rest. takes most (against q (cells ws) total m) (t - 1) (trial q (cells ws) total m d) (at + 1) rest)
+    then-stops p (oneDraw most at (drop at draws)) (λ d rest. takes most (against q (cells ws) total m) (t - 1) (trial q (cells ws) total m d) (at + 1) rest)
     (takes-out most (λ s d. d) draws 1 0 at p (b .0, omega arith, b .2)))
   where
     total : Float

@@ -15,7 +15,7 @@ use Rattle.draws.specs.declared.Stop.the-variants.{DrawOutOfRange}
 use Rattle.plusplus_pick.specs.declared.Trial.{Trial}
 use Rattle.plusplus_trials.specs.declared.Tried.the-variants.{Best, Stopped}
 use Rattle.draws.specs.Stops.{drawOf}
-use Rattle.draws.specs.Draws.{Drawn, drawn, refused, takes, one, shares}
+use Rattle.draws.specs.Draws.{Drawn, drawn, refused, takes, oneDraw, shares}
 use Rattle.plusplus_pick.specs.Potentials.{running, limit, trial}
 use Rattle.plusplus_trials.specs.Trials.{against, bestTrial, nextOf, triedOf}
 use Rattle.plusplus_pick.proofs.Picks.{pick-below}
@@ -34,12 +34,12 @@ limit-some total m z = limit-cond (lt zero64 total) m z
 
 module _ (q : ℕ → ℕ → Float) (w : ℕ → Float) (total : Float) (m : ℕ) where
   -- the first draw, at place i of a list, by its answer
-  pub best-value : (more : ℕ) (draws : List ℕ) (i : ℕ) {d : ℕ} → i < length draws → drawOf (one (limit total m) i (drop i draws)) ≡ draw.Value d
+  pub best-value : (more : ℕ) (draws : List ℕ) (i : ℕ) {d : ℕ} → i < length draws → drawOf (oneDraw (limit total m) i (drop i draws)) ≡ draw.Value d
       → bestTrial q w total m more i (drop i draws) ≡ takes (limit total m) (against q w total m) more (trial q w total m d) (i + 1) (drop (i + 1) draws)
   unfolding bestTrial
   best-value more draws i l e = rw (draw-value (limit total m) draws i l e .1)
 
-  pub best-stopped : (more : ℕ) (draws : List ℕ) (i : ℕ) {s : Stop} → i < length draws → drawOf (one (limit total m) i (drop i draws)) ≡ draw.Stopped s
+  pub best-stopped : (more : ℕ) (draws : List ℕ) (i : ℕ) {s : Stop} → i < length draws → drawOf (oneDraw (limit total m) i (drop i draws)) ≡ draw.Stopped s
       → (bestTrial q w total m more i (drop i draws) ≡ refused i) × (s ≡ DrawOutOfRange i)
   unfolding bestTrial
   best-stopped more draws i l e = let v = draw-stopped (limit total m) draws i l e in (rw (v .1) refl, v .0)
@@ -54,7 +54,7 @@ module _ (q : ℕ → ℕ → Float) (w : ℕ → Float) (total : Float) (m : �
   best-took z more at ds =
       then-ends (λ d rest. (d < limit total m) × (rest ≡ drop 1 ds) × (1 ≤ length ds)) (λ p. (at ≤ p) × (p < at + 1))
       (λ b rest. (b .pick < m) × (rest ≡ drop (1 + more) ds) × (1 + more ≤ length ds)) (λ p. (at ≤ p) × (p < at + (1 + more)))
-      (one (limit total m) at ds) (λ d rest. takes (limit total m) (against q w total m) more (trial q w total m d) (at + 1) rest)
+      (oneDraw (limit total m) at ds) (λ d rest. takes (limit total m) (against q w total m) more (trial q w total m d) (at + 1) rest)
       (one-took (limit total m) at ds (limit-some total m z))
       (λ d rest h.
       ends-map (λ b r. (b .pick < m) × (r ≡ drop more rest) × (more ≤ length rest)) (λ p. (at + 1 ≤ p) × (p < at + 1 + more))
@@ -70,7 +70,7 @@ module _ (q : ℕ → ℕ → Float) (w : ℕ → Float) (total : Float) (m : �
   best-behind z more at p b l =
       rw (take-behind (limit total m) (λ s d. d) 1 0 at p b (omega arith))
       (then-behind (λ d rest. (d < limit total m) × (rest ≡ drop 1 p) × (1 ≤ length p)) (λ x. (at ≤ x) × (x < at + 1))
-      (one (limit total m) at p) (λ d rest. takes (limit total m) (against q w total m) more (trial q w total m d) (at + 1) rest) b
+      (oneDraw (limit total m) at p) (λ d rest. takes (limit total m) (against q w total m) more (trial q w total m d) (at + 1) rest) b
       (one-took (limit total m) at p (limit-some total m z))
       (λ d rest h. take-behind (limit total m) (against q w total m) more (trial q w total m d) (at + 1) rest b (omega (arith, ap length (h .1) ∙ length-drop 1 p))))
 

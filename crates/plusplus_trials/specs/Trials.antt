@@ -8,7 +8,7 @@ use lib.Ieee.{Float}
 use Rattle.lists.specs.Lists.{cells, row}
 use Rattle.lists.specs.Sums.{sumTo}
 use Rattle.draws.specs.declared.Stop.the-variants.{DrawOutOfRange}
-use Rattle.draws.specs.Draws.{Drawn, drawn, refused, takes, one, andThen}
+use Rattle.draws.specs.Draws.{Drawn, drawn, refused, takes, oneDraw, andThen}
 use Rattle.plusplus_pick.specs.declared.Trial.{Trial}
 use Rattle.plusplus_pick.specs.Potentials.{limit, trial, better}
 use Rattle.plusplus_trials.specs.declared.Tried.{Tried}
@@ -21,7 +21,7 @@ against q w total m b d = better b (trial q w total m d)
 -- the best of one trial and `more`; the first stands whatever its potential is
 unfoldable pub bestTrial : (ℕ → ℕ → Float) → (ℕ → Float) → Float → ℕ → ℕ → ℕ → List ℕ → Drawn Trial
 bestTrial q w total m more at ds =
-    andThen (one (limit total m) at ds)
+    andThen (oneDraw (limit total m) at ds)
     (λ d rest. takes (limit total m) (against q w total m) more (trial q w total m d) (at + 1) rest)
 
 -- the best of t trials, with the weights in ws, whose total is their sum by rising row

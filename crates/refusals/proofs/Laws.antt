@@ -9,14 +9,14 @@ use native.Mathlib.Decide.{decLt}
 use borrow.Author.Tests.{lt-ltb, ltb-false, eqb-true, eq-eqb, ne-eqb}
 use lib.Dec.{eqb, ltb}
 use lib.Ieee.{Float}
-use Rattle.refusals.specs.Table.{numberOf, refusalOf, Refusal, none, refused, when, unless, refusal, filled, worked, wiped}
+use Rattle.refusals.specs.Table.{numberOf, refusalOf, Refusal, none, refused, whenever, unless, refusal, filled, worked, wiped}
 use Rattle.refusals.specs.declared.Answer.{Answer}
 use Rattle.refusals.specs.declared.Answer.the-variants.{Done, InvalidCorrelationMatrix, TooLarge, CellCount, ListLength, OutOfRange}
 use Rattle.lists.proofs.Tests.{impossible, neither, or-true}
 
 -- nothing is refused: the test of each row failed (or held), and nothing is refused below it
-pub when-none : (test : Bool) (q below : Refusal) → eqb (q .number) 0 ≡ false → eqb (when test q below .number) 0 ≡ true → (test ≡ false) × (eqb (below .number) 0 ≡ true)
-unfolding when
+pub when-none : (test : Bool) (q below : Refusal) → eqb (q .number) 0 ≡ false → eqb (whenever test q below .number) 0 ≡ true → (test ≡ false) × (eqb (below .number) 0 ≡ true)
+unfolding whenever
 when-none true q below e h = impossible (sym e ∙ h)
 when-none false q below e h = (refl, h)
 
@@ -57,7 +57,7 @@ accepted cells n m fits bad count h =
 
 -- over 256 rows are refused whatever else is asked
 pub many-rows : (cells n m : ℕ) (f g : Bool) (bad bad′ count count′ : ℕ) → 256 < m → refusal cells n m f bad count ≡ refusal cells n m g bad′ count′
-unfolding refusal when unless
+unfolding refusal whenever unless
 many-rows cells n m f g bad bad′ count count′ h = rw (lt-ltb 256 m h, or-true (ltb 256 n))
 
 -- so whether the other lists fit is asked of at most 256 rows alone

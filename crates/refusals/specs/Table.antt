@@ -41,8 +41,8 @@ abbrev pub refused : ℕ → Refusal
 refused k = record { number = k; place = 0 }
 
 -- a row of the table: its refusal where the test holds (or fails), else the rows below it
-unfoldable pub when : Bool → Refusal → Refusal → Refusal
-when test q below = cond test q below
+unfoldable pub whenever : Bool → Refusal → Refusal → Refusal
+whenever test q below = cond test q below
 
 unfoldable pub unless : Bool → Refusal → Refusal → Refusal
 unless test q below = cond test below q
@@ -51,11 +51,11 @@ unless test q below = cond test below q
 -- do not fit; then 10 at the place `bad`, the first of `count` numbers that is out of range, if it is below `count`.
 unfoldable pub refusal : ℕ → ℕ → ℕ → Bool → ℕ → ℕ → Refusal
 refusal cells n m fits bad count =
-    when (ltb n 2 || ltb m 2) (refused 2)
-    (when (ltb 256 n || ltb 256 m) (refused 4)
+    whenever (ltb n 2 || ltb m 2) (refused 2)
+    (whenever (ltb 256 n || ltb 256 m) (refused 4)
     (unless (eqb cells (n * n)) (refused 5)
     (unless fits (refused 6)
-    (when (ltb bad count) (record { number = 10; place = bad }) none))))
+    (whenever (ltb bad count) (record { number = 10; place = bad }) none))))
 
 -- the rows above, and where none of them applies the rows below
 unfoldable pub orElse : Refusal → Refusal → Refusal

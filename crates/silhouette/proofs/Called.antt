@@ -9,10 +9,10 @@ use lib.Dec.{eqb, leb}
 use lib.ListN.{length, take, drop, length-append, length-drop}
 use lib.Seq.{take-at, drop-at}
 use lib.Ieee.{Float, nan}
-use Rattle.lists.specs.Lists.{listed, numbers, cellAt, flat, grid, firstFrom}
+use Rattle.lists.specs.Lists.{listed, numbers, cellAt, flat, matrixOf, firstFrom}
 use Rattle.lists.proofs.Listed.{listed-same, listed-length}
 use Rattle.lists.proofs.First.{from-none}
-use Rattle.lists.proofs.Grid.{in-grid}
+use Rattle.lists.proofs.Matrix.{in-matrix}
 use Rattle.lists.proofs.Parts.{drop-behind}
 use Rattle.refusals.specs.Table.{numberOf, refusalOf, refusal, Refusal, workDoubles, wiped}
 use Rattle.refusals.specs.declared.Answer.{Answer}
@@ -25,7 +25,7 @@ use Rattle.lists.proofs.Tests.{both}
 
 -- The pair distances transposed, at the front of the working list.
 module _ (pairs : List Float) (n : ℕ) (labels : List ℕ) (floats : List Float) (named : length labels ≡ n) (room : workDoubles n ≤ length floats)
-    {turned : List Float} (is : turned ≡ grid (λ i j. cellAt pairs n j i) n) where
+    {turned : List Float} (is : turned ≡ matrixOf (λ i j. cellAt pairs n j i) n) where
   abbrev whole : List Float
   whole = turned ++ drop (n * n) floats
 
@@ -56,7 +56,7 @@ module _ (pairs : List Float) (n : ℕ) (labels : List ℕ) (floats : List Float
   whole-scores e =
       (rw (front, named) at e)
       ∙ listed-same nan (λ i. silhouette (distance turned n i) (numbers labels) n i) (λ i. silhouette (cellAt pairs n i) (numbers labels) n i) n
-      (λ i q. score-same (distance turned n i) (cellAt pairs n i) (numbers labels) n i (λ j b. in-grid (λ r s. cellAt pairs n s r) n j i nan is b q))
+      (λ i q. score-same (distance turned n i) (cellAt pairs n i) (numbers labels) n i (λ j b. in-matrix (λ r s. cellAt pairs n s r) n j i nan is b q))
 
 -- what holds of the lists of a call that is not refused
 pub ready : (a : Answer) (pairs : List Float) (n : ℕ) (labels : List ℕ) (scores floats : List Float)

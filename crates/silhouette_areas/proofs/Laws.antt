@@ -6,10 +6,10 @@ use mathlib.Core.List.{List, _++_}
 use native.Mathlib.Omega.{arith}
 use lib.ListN.{length, take, drop, length-drop}
 use lib.Ieee.{Float, nan}
-use Rattle.lists.specs.Lists.{numbers, part, grid, cellAt}
+use Rattle.lists.specs.Lists.{numbers, part, matrixOf, cellAt}
 use Rattle.lists.specs.Sums.{countIf}
 use Rattle.lists.proofs.Listed.{listed-same, length-listed}
-use Rattle.lists.proofs.Grid.{in-grid, grid-same}
+use Rattle.lists.proofs.Matrix.{in-matrix, matrix-same}
 use Rattle.lists.proofs.Parts.{part-front, part-length}
 use Rattle.distance_columns.specs.Pair.{pairAt}
 use Rattle.distance_columns.specs.Columns.{pointsAt}
@@ -57,12 +57,12 @@ module _ {area : List Float} {m : ℕ} (r : Prepared area m) (n : ℕ) (e : n �
   pub fourth-scores : (labels : List ℕ) → length labels ≡ m → {out : List Float} → out ≡ scoresAcross (part (3 * (m * m)) n area) labels → out ≡ scoresOf (pointsAt area m) m (numbers labels)
   unfolding scoresOf
   fourth-scores labels l q =
-      let is : part (3 * (m * m)) n area ≡ grid (pairAt (pointsAt area m) m) m = rw e (r .pairs) in
+      let is : part (3 * (m * m)) n area ≡ matrixOf (pairAt (pointsAt area m) m) m = rw e (r .pairs) in
       (rw l at q)
       ∙ listed-same nan (λ i. silhouette (distance (part (3 * (m * m)) n area) m i) (numbers labels) m i) (λ i. silhouette (pairAt (pointsAt area m) m i) (numbers labels) m i) m
       (λ i h.
       score-same (distance (part (3 * (m * m)) n area) m i) (pairAt (pointsAt area m) m i) (numbers labels) m i
-      (λ j b. in-grid (pairAt (pointsAt area m) m) m j i nan is b h ∙ pair-flip (pointsAt area m) m j i))
+      (λ j b. in-matrix (pairAt (pointsAt area m) m) m j i nan is b h ∙ pair-flip (pointsAt area m) m j i))
 
 -- the four areas that `book_pairs` leaves, and a fifth, are those of a round
 pub round-areas : (x : ℕ → ℕ → Float) (m : ℕ) (back : List Float) → 0 < m → m ≤ 256 → length back ≡ m * m → Prepared (pairsArea x m ++ back) m
@@ -71,7 +71,7 @@ round-areas x m back some few l =
       held = pairs-held x m back some few l;
       pairs =
           fourth-is x m back
-          ∙ grid-same nan (pairAt x m) (pairAt (pointsAt (pairsArea x m ++ back) m) m) m
+          ∙ matrix-same nan (pairAt x m) (pairAt (pointsAt (pairsArea x m ++ back) m) m) m
           (λ i j h c. pair-same x (pointsAt (pairsArea x m ++ back) m) m i j (λ a b u v. sym (pairs-points x m back a b u v)) h c);
     }
 
@@ -100,5 +100,5 @@ module _ (m : ℕ) (a d : List Float) (e : take (4 * (m * m)) a ≡ take (4 * (m
         held = held-kept m a d l e (r .held);
         pairs =
             part-front (4 * (m * m)) (3 * (m * m)) (m * m) a d (omega arith) e ∙ r .pairs
-            ∙ ap (λ (p : List Float). grid (pairAt (cellAt p m) m) m) (sym (points-kept m a d e));
+            ∙ ap (λ (p : List Float). matrixOf (pairAt (cellAt p m) m) m) (sym (points-kept m a d e));
       }

@@ -3,7 +3,7 @@ use Prim.Native.Nat.{ℕ, _*_}
 use mathlib.Core.Path.{_≡_}
 use mathlib.Core.List.{List}
 use lib.Ieee.{Float}
-use Rattle.lists.specs.Lists.{listed, part, grid}
+use Rattle.lists.specs.Lists.{listed, part, matrixOf}
 use Rattle.distance_columns.specs.Pair.{pairAt}
 use Rattle.distance_columns.specs.Columns.{pointsAt}
 use Rattle.silhouette_scores.specs.Scores.{silhouette}
@@ -16,4 +16,4 @@ scoresOf x m label = listed (λ i. silhouette (pairAt x m i) label m i) m
 -- the areas of a round, as k-means asks for them, with the pair distances in the fourth
 pub record Prepared (area : List Float) (m : ℕ) : Type 0 where
   pub held : Held area m
-  pub pairs : part (3 * (m * m)) (m * m) area ≡ grid (pairAt (pointsAt area m) m) m
+  pub pairs : part (3 * (m * m)) (m * m) area ≡ matrixOf (pairAt (pointsAt area m) m) m

@@ -15,7 +15,7 @@ use Rattle.lists.specs.Lists.{listed, cells, numbers, row}
 use Rattle.lists.specs.Sums.{zero64, foldIf, sumIf, countIf, groupSize}
 use Rattle.lists.proofs.Listed.{listed-same, listed-set, listed-const, listed-length, getD-listed}
 use Rattle.lists.proofs.Sums.{fold-in, fold-out, fold-same}
-use Rattle.lists.proofs.Grid.{row-cell}
+use Rattle.lists.proofs.Matrix.{row-cell}
 use Rattle.silhouette_scores.specs.Scores.{member}
 use Rattle.silhouette_scores.specs.Groups.{distance}
 use Rattle.lists.proofs.Tests.{and-false, and-true}

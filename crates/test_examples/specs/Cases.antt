@@ -73,16 +73,16 @@ valueOf c a b rows =
     (cond (eqb (c .leaf) 14) (squaredDistanceThrough a (c .n) rows (c .i) (c .j)) (measuredBy (averageOf (c .i) 0 (replicate (c .n) half))))))
 
 -- a call that is lent no list to work in leaves the case's as it was
-abbrev pub kept : Filled → List Float → Worked
-kept l floats = record { answer = l .answer; out = l .out; floats = floats }
+abbrev pub keptFloats : Filled → List Float → Worked
+keptFloats l floats = record { answer = l .answer; out = l .out; floats = floats }
 
 -- what a leaf that fills a list gives and leaves: 8 corr_to_distance, 9 the same through row numbers, 10 submatrix, 11 pairwise_distances,
 -- 12 the same through row numbers, else silhouette_from_pairwise
 unfoldable pub listOf : Case → List Float → List ℕ → List Float → List Float → Worked
 listOf c a rows out floats =
-    cond (eqb (c .leaf) 8) (kept (corrToDistance a (c .n) out) floats)
-    (cond (eqb (c .leaf) 9) (kept (corrToDistanceThrough a (c .n) rows out) floats)
-    (cond (eqb (c .leaf) 10) (kept (submatrixOf a (c .n) rows out) floats)
+    cond (eqb (c .leaf) 8) (keptFloats (corrToDistance a (c .n) out) floats)
+    (cond (eqb (c .leaf) 9) (keptFloats (corrToDistanceThrough a (c .n) rows out) floats)
+    (cond (eqb (c .leaf) 10) (keptFloats (submatrixOf a (c .n) rows out) floats)
     (cond (eqb (c .leaf) 11) (pairwiseDistances a (c .n) out floats)
     (cond (eqb (c .leaf) 12) (pairwiseDistancesThrough a (c .n) rows out floats) (silhouettesOf a (c .n) rows out floats)))))
 

@@ -5,7 +5,7 @@ use mathlib.Core.List.{List, [], _∷_}
 use lib.Dec.{eqb, ltb}
 use lib.ListN.{length}
 use lib.IntN.{ℤ, pos, negsuc}
-use Rattle.lists.specs.Lists.{listed, grid}
+use Rattle.lists.specs.Lists.{listed, matrixOf}
 use Rattle.refusals.specs.Table.{Refusal}
 use Rattle.intake.specs.Intake.{million, intakeOf}
 use Rattle.test_words.specs.Words.{wordFrom, sizeFrom}
@@ -50,4 +50,4 @@ unfoldable pub madeCell : ℕ → ℕ → ℤ
 madeCell i j = cond (eqb i j) (pos million) (pos ((i + j) * 1000))
 
 abbrev pub madeBook : ℕ → List ℤ
-madeBook n = grid madeCell n
+madeBook n = matrixOf madeCell n

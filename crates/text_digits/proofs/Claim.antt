@@ -4,7 +4,7 @@ use mathlib.Core.Path.{_≡_, refl, sym, ap, _∙_}
 use mathlib.Core.List.{List, [], _∷_, append-nil}
 use native.Mathlib.Omega.{arith}
 use lib.ListN.{length}
-use Rattle.text_digits.specs.Digits.{byteAt, digitOf, digitByte, spelled, digits, placesTo, widthOf, numeral}
+use Rattle.text_digits.specs.Digits.{byteAt, digitOf, digitByte, spelled, digitsOf, placesTo, widthOf, numeral}
 use Rattle.text_digits.specs.Claim.{DigitsClaim}
 use Rattle.text_digits.proofs.Numerals.{length-digits}
 use Rattle.text_digits.proofs.RoundTrip.{digits-at, spelled-back}
@@ -12,8 +12,8 @@ use Rattle.text_digits.proofs.Places.{places-hold, first-some, width-te
 
 -- k digits of x on their own
 module _ (b : ℕ) (z : 0 < b) (h16 : b ≤ 16) (k x : ℕ) where
-  spelled-alone : x < b ^ k → spelled b (digits b k x) 0 k ≡ x
-  spelled-alone h = ap (λ (l : List ℕ). spelled b l 0 k) (sym (append-nil (digits b k x))) ∙ spelled-back b z h16 k x [] [] h
+  spelled-alone : x < b ^ k → spelled b (digitsOf b k x) 0 k ≡ x
+  spelled-alone h = ap (λ (l : List ℕ). spelled b l 0 k) (sym (append-nil (digitsOf b k x))) ∙ spelled-back b z h16 k x [] [] h
 
 width-hex : (x : ℕ) → widthOf 16 x ≡ 16
 unfolding widthOf
@@ -37,7 +37,7 @@ ten-spells x h =
     (spelled-alone 10 (omega arith) (omega arith) (placesTo 20 x) x (places-hold 20 x h))
 
 ten-zero : numeral 10 0 ≡ 48 ∷ []
-unfolding digits digitByte placesTo widthOf
+unfolding digitsOf digitByte placesTo widthOf
 ten-zero = refl
 
 ten-first : (x : ℕ) → 0 < x → x < 10 ^ 20 → byteAt (numeral 10 x) 0 ≡ 48 → ⊥

@@ -9,7 +9,7 @@ use native.Mathlib.Omega.{arith}
 use borrow.Author.Tests.{eq-eqb, ne-eqb}
 use lib.Dec.{eqb}
 use lib.ListN.{length, length-append}
-use Rattle.text_digits.specs.Digits.{digits, newline, stopOf}
+use Rattle.text_digits.specs.Digits.{digitsOf, newline, stopOf}
 use Rattle.text_digits.specs.Lines.{fieldsOf, lineOf}
 use Rattle.text_digits.proofs.Numerals.{length-digits}
 
@@ -20,15 +20,15 @@ module _ (b : ℕ) (width x : ℕ → ℕ) (n : ℕ) where
   fields-none = refl
 
   -- one field more
-  pub fields-more : (t : ℕ) → fieldsOf b width x n t ++ (digits b (width t) (x t) ++ (stopOf t n ∷ [])) ≡ fieldsOf b width x n (t + 1)
+  pub fields-more : (t : ℕ) → fieldsOf b width x n t ++ (digitsOf b (width t) (x t) ++ (stopOf t n ∷ [])) ≡ fieldsOf b width x n (t + 1)
   unfolding fieldsOf
   fields-more t = ap (fieldsOf b width x n) (sym (add-one t))
 
   pub length-more : (t : ℕ) → length (fieldsOf b width x n (suc t)) ≡ length (fieldsOf b width x n t) + (width t + 1)
   unfolding fieldsOf
   length-more t =
-      length-append (fieldsOf b width x n t) (digits b (width t) (x t) ++ (stopOf t n ∷ []))
-      ∙ rw (length-append (digits b (width t) (x t)) (stopOf t n ∷ []), length-digits b (width t) (x t))
+      length-append (fieldsOf b width x n t) (digitsOf b (width t) (x t) ++ (stopOf t n ∷ []))
+      ∙ rw (length-append (digitsOf b (width t) (x t)) (stopOf t n ∷ []), length-digits b (width t) (x t))
 
   -- the line of no field, and the line when its last field stands
   pub line-none : n ≡ 0 → newline ∷ [] ≡ lineOf b width x n

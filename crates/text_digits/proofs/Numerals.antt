@@ -7,12 +7,12 @@ use native.Mathlib.Numerals.{add-one}
 use native.Mathlib.Omega.{arith}
 use lib.Dec.{ltb, eqb}
 use lib.ListN.{length, length-append}
-use Rattle.text_digits.specs.Digits.{digitByte, digits, placesTo, widthOf, numeral}
+use Rattle.text_digits.specs.Digits.{digitByte, digitsOf, placesTo, widthOf, numeral}
 
-pub length-digits : (b k x : ℕ) → length (digits b k x) ≡ k
-unfolding digits
+pub length-digits : (b k x : ℕ) → length (digitsOf b k x) ≡ k
+unfolding digitsOf
 length-digits b zero x = refl
-length-digits b (suc k) x = length-append (digits b k (x / b)) (digitByte (x % b) ∷ []) ∙ rw (length-digits b k (x / b)) (add-one k)
+length-digits b (suc k) x = length-append (digitsOf b k (x / b)) (digitByte (x % b) ∷ []) ∙ rw (length-digits b k (x / b)) (add-one k)
 
 cond-le : (c : Bool) (k m : ℕ) → k ≤ m → cond c 1 (suc k) ≤ suc m
 cond-le true k m h = omega arith

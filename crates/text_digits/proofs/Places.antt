@@ -8,7 +8,7 @@ use native.Mathlib.Decide.{decLt, ℕ-discrete}
 use native.Mathlib.Omega.{arith}
 use borrow.Author.Tests.{lt-ltb, le-ltb}
 use lib.ListN.{getD, List·getD-append}
-use Rattle.text_digits.specs.Digits.{byteAt, digitOf, digitByte, spelled, digits, placesTo, widthOf}
+use Rattle.text_digits.specs.Digits.{byteAt, digitOf, digitByte, spelled, digitsOf, placesTo, widthOf}
 use Rattle.text_digits.proofs.Numerals.{length-digits}
 use Rattle.text_digits.proofs.RoundTrip.{digit-digit-byte}
 
@@ -44,14 +44,14 @@ digit-byte-some : (d : ℕ) → 0 < d → d < 10 → digitByte d ≡ 48 → ⊥
 unfolding digitByte
 digit-byte-some d h l e = let q : 48 + d ≡ 48 = rw (lt-ltb d 10 l) at e in omega arith
 
-pub first-some : (m v : ℕ) → 0 < v → v < 10 ^ m → getD (digits 10 (placesTo m v) v) 0 0 ≡ 48 → ⊥
-unfolding placesTo digits
+pub first-some : (m v : ℕ) → 0 < v → v < 10 ^ m → getD (digitsOf 10 (placesTo m v) v) 0 0 ≡ 48 → ⊥
+unfolding placesTo digitsOf
 first-some zero v h l e = omega arith
 first-some (suc m) v h l e =
     by-cases (decLt v 10)
     (λ y. let q : digitByte (v % 10) ≡ 48 = rw (lt-ltb v 10 y) at e in digit-byte-some (v % 10) (omega arith) (omega arith) q)
-    (λ g. let q : getD (digits 10 (placesTo m (v / 10)) (v / 10) ++ (digitByte (v % 10) ∷ [])) 0 0 ≡ 48 = rw (le-ltb v 10 (omega arith)) at e in
-    first-some m (v / 10) (omega arith) (ten-less v m l) (sym (List·getD-append (digits 10 (placesTo m (v / 10)) (v / 10)) (digitByte (v % 10) ∷ []) 0 0 (rw (length-digits 10 (placesTo m (v / 10)) (v / 10)) (some m (omega arith) (ten-less v m l)))) ∙ q))
+    (λ g. let q : getD (digitsOf 10 (placesTo m (v / 10)) (v / 10) ++ (digitByte (v % 10) ∷ [])) 0 0 ≡ 48 = rw (le-ltb v 10 (omega arith)) at e in
+    first-some m (v / 10) (omega arith) (ten-less v m l) (sym (List·getD-append (digitsOf 10 (placesTo m (v / 10)) (v / 10)) (digitByte (v % 10) ∷ []) 0 0 (rw (length-digits 10 (placesTo m (v / 10)) (v / 10)) (some m (omega arith) (ten-less v m l)))) ∙ q))
   where
     some : (m : ℕ) → 10 ≤ v → v / 10 < 10 ^ m → 0 < placesTo m (v / 10)
     some zero t h = absurd (omega arith)

@@ -10,7 +10,7 @@ use native.Mathlib.Omega.{arith}
 use borrow.Author.Tests.{lt-ltb, le-ltb}
 use lib.ListN.{length, getD, take, drop, take-append-drop, length-drop, List·getD-append}
 use lib.Seq.{getD-append-add, getD-at, take-suc, drop-cons, getD-drop, drop-drop}
-use Rattle.text_digits.specs.Digits.{byteAt, digitOf, digitByte, runOf, spelled, digits}
+use Rattle.text_digits.specs.Digits.{byteAt, digitOf, digitByte, runOf, spelled, digitsOf}
 use Rattle.text_digits.proofs.Numerals.{length-digits}
 use Rattle.text_digits.proofs.Scan.{in-text, run-digits}
 
@@ -28,22 +28,22 @@ module _ (b : ℕ) (z : 0 < b) (h16 : b ≤ 16) where
   last-digit x = digit-byte-digit (x % b) (omega (arith, mod-lt x z))
 
   -- each byte of a number is a digit
-  pub digits-at : (k x j : ℕ) → j < k → digitOf (getD (digits b k x) j 0) < b
-  unfolding digits
+  pub digits-at : (k x j : ℕ) → j < k → digitOf (getD (digitsOf b k x) j 0) < b
+  unfolding digitsOf
   digits-at zero x j h = absurd (omega arith)
   digits-at (suc k) x j h =
       ⊎-elim
-      (λ q. rw (getD-at (digits b k (x / b)) (digitByte (x % b)) [] 0 j (length-digits b k (x / b) ∙ sym q), last-digit x) (mod-lt x z))
-      (λ q. rw (List·getD-append (digits b k (x / b)) (digitByte (x % b) ∷ []) 0 j (rw (length-digits b k (x / b)) q)) (digits-at k (x / b) j q))
+      (λ q. rw (getD-at (digitsOf b k (x / b)) (digitByte (x % b)) [] 0 j (length-digits b k (x / b) ∙ sym q), last-digit x) (mod-lt x z))
+      (λ q. rw (List·getD-append (digitsOf b k (x / b)) (digitByte (x % b) ∷ []) 0 j (rw (length-digits b k (x / b)) q)) (digits-at k (x / b) j q))
       (eq-or-lt-of-le {n = j} {m = k} (omega arith))
 
   -- k digits of x, wherever they stand in a text, spell x
-  pub spelled-back : (k x : ℕ) (A C : List ℕ) → x < b ^ k → spelled b (A ++ (digits b k x ++ C)) (length A) k ≡ x
-  unfolding spelled digits
+  pub spelled-back : (k x : ℕ) (A C : List ℕ) → x < b ^ k → spelled b (A ++ (digitsOf b k x ++ C)) (length A) k ≡ x
+  unfolding spelled digitsOf
   spelled-back zero x A C h = let q : x < 1 = rw pow-zero at h in omega arith
   spelled-back (suc k) x A C h =
       let g = digitByte (x % b) in
-      let W = digits b k (x / b) in
+      let W = digitsOf b k (x / b) in
       let s = A ++ (W ++ (g ∷ C)) in
       let e : A ++ ((W ++ (g ∷ [])) ++ C) ≡ s = ap (λ (l : List ℕ). A ++ l) (append-assoc W (g ∷ []) C) in
       let m : x < b ^ k * b = rw pow-suc at h in
@@ -67,12 +67,12 @@ run-exact b s (suc k) p (suc m) h f g =
     (ap suc (run-exact b s k (suc p) m (omega arith) (λ j l. rw (t j) (f (suc j) (omega arith))) (λ l. rw (t k) (g (omega arith)))))
 
 -- a number of k digits at A's end, with a byte c behind it that is no digit
-module _ (b : ℕ) (z : 0 < b) (h16 : b ≤ 16) (A : List ℕ) (k x c : ℕ) (B : List ℕ) (s : List ℕ) (e : s ≡ A ++ (digits b k x ++ (c ∷ B))) where
+module _ (b : ℕ) (z : 0 < b) (h16 : b ≤ 16) (A : List ℕ) (k x c : ℕ) (B : List ℕ) (s : List ℕ) (e : s ≡ A ++ (digitsOf b k x ++ (c ∷ B))) where
   pub byte-behind : byteAt s (length A + k) ≡ c
-  byte-behind = rw e (getD-append-add A (digits b k x ++ (c ∷ B)) k 0 ∙ getD-at (digits b k x) c B 0 k (length-digits b k x))
+  byte-behind = rw e (getD-append-add A (digitsOf b k x ++ (c ∷ B)) k 0 ∙ getD-at (digitsOf b k x) c B 0 k (length-digits b k x))
 
-  byte-inside : (j : ℕ) → j < k → byteAt s (length A + j) ≡ getD (digits b k x) j 0
-  byte-inside j h = rw e (getD-append-add A (digits b k x ++ (c ∷ B)) j 0 ∙ List·getD-append (digits b k x) (c ∷ B) 0 j (rw (length-digits b k x) h))
+  byte-inside : (j : ℕ) → j < k → byteAt s (length A + j) ≡ getD (digitsOf b k x) j 0
+  byte-inside j h = rw e (getD-append-add A (digitsOf b k x ++ (c ∷ B)) j 0 ∙ List·getD-append (digitsOf b k x) (c ∷ B) 0 j (rw (length-digits b k x) h))
 
   pub run-back : (m : ℕ) → k ≤ m → b ≤ digitOf c → runOf b s (length A) m ≡ k
   run-back m h n = run-exact b s k (length A) m h (λ j l. rw (byte-inside j l) (digits-at b z h16 k x j l)) (λ l. rw byte-behind n)
@@ -80,7 +80,7 @@ module _ (b : ℕ) (z : 0 < b) (h16 : b ≤ 16) (A : List ℕ) (k x c : ℕ) (B 
   pub number-back : x < b ^ k → spelled b s (length A) k ≡ x
   number-back h = rw e (spelled-back b z h16 k x A (c ∷ B) h)
 
-  pub first-byte : 0 < k → byteAt s (length A) ≡ getD (digits b k x) 0 0
+  pub first-byte : 0 < k → byteAt s (length A) ≡ getD (digitsOf b k x) 0 0
   first-byte h = rw add-zero at (byte-inside 0 h)
 
 -- a digit is read and written back
@@ -98,8 +98,8 @@ digit-digit-byte c h =
 
 module _ (b : ℕ) (z : 0 < b) (h16 : b ≤ 16) (s : List ℕ) (p : ℕ) where
   -- k digits are the digits of the number that they spell
-  digits-back : (k : ℕ) → ((j : ℕ) → j < k → digitOf (byteAt s (p + j)) < b) → p + k ≤ length s → take k (drop p s) ≡ digits b k (spelled b s p k)
-  unfolding digits spelled
+  digits-back : (k : ℕ) → ((j : ℕ) → j < k → digitOf (byteAt s (p + j)) < b) → p + k ≤ length s → take k (drop p s) ≡ digitsOf b k (spelled b s p k)
+  unfolding digitsOf spelled
   digits-back zero f h = refl
   digits-back (suc k) f h =
       let c = byteAt s (p + k) in
@@ -116,7 +116,7 @@ module _ (b : ℕ) (z : 0 < b) (h16 : b ≤ 16) (s : List ℕ) (p : ℕ) where
 
   -- a run and the byte c behind it, taken off a text
   pub run-off : (m c : ℕ) → byteAt s (p + runOf b s p m) ≡ c → 0 < c
-      → drop p s ≡ digits b (runOf b s p m) (spelled b s p (runOf b s p m)) ++ (c ∷ drop (p + runOf b s p m + 1) s)
+      → drop p s ≡ digitsOf b (runOf b s p m) (spelled b s p (runOf b s p m)) ++ (c ∷ drop (p + runOf b s p m + 1) s)
   run-off m c e h =
       let k = runOf b s p m in
       let l : p + k < length s = in-text s (p + k) (rw e h) in

@@ -1,15 +1,15 @@
--- What a reader may believe of `digits` and `numeral` without reading how they are made. `digits-claim` (proofs/Claim.antt) proves it.
+-- What a reader may believe of `digitsOf` and `numeral` without reading how they are made. `digits-claim` (proofs/Claim.antt) proves it.
 use Prim.Native.Nat.{ℕ, _^_, _<_, _≤_}
 use mathlib.Core.Path.{_≡_}
 use mathlib.Core.List.{[], _∷_}
 use lib.ListN.{length}
-use Rattle.text_digits.specs.Digits.{byteAt, digitOf, spelled, digits, numeral}
+use Rattle.text_digits.specs.Digits.{byteAt, digitOf, spelled, digitsOf, numeral}
 
 pub record DigitsClaim : Type 0 where
   -- k digits in a base b of 1 to 16: k bytes, each of them a digit, which spell every number below b ^ k
-  pub width-length : (b k x : ℕ) → length (digits b k x) ≡ k
-  pub width-digits : (b k x j : ℕ) → 0 < b → b ≤ 16 → j < k → digitOf (byteAt (digits b k x) j) < b
-  pub width-spells : (b k x : ℕ) → 0 < b → b ≤ 16 → x < b ^ k → spelled b (digits b k x) 0 k ≡ x
+  pub width-length : (b k x : ℕ) → length (digitsOf b k x) ≡ k
+  pub width-digits : (b k x j : ℕ) → 0 < b → b ≤ 16 → j < k → digitOf (byteAt (digitsOf b k x) j) < b
+  pub width-spells : (b k x : ℕ) → 0 < b → b ≤ 16 → x < b ^ k → spelled b (digitsOf b k x) 0 k ≡ x
   -- in base 16: 16 bytes, each of them a digit, which spell every number below 2 ^ 64
   pub hex-length : (x : ℕ) → length (numeral 16 x) ≡ 16
   pub hex-digits : (x j : ℕ) → j < 16 → digitOf (byteAt (numeral 16 x) j) < 16

@@ -28,9 +28,9 @@ spelled b s p zero = zero
 spelled b s p (suc k) = spelled b s p k * b + digitOf (byteAt s (p + k))
 
 -- the last k digits of x in base b, the most significant first
-unfoldable pub digits : ℕ → ℕ → ℕ → List ℕ
-digits b zero x = []
-digits b (suc k) x = digits b k (x / b) ++ (digitByte (x % b) ∷ [])
+unfoldable pub digitsOf : ℕ → ℕ → ℕ → List ℕ
+digitsOf b zero x = []
+digitsOf b (suc k) x = digitsOf b k (x / b) ++ (digitByte (x % b) ∷ [])
 
 -- how many decimal digits x takes, for x below 10 ^ m and m above 0; m for a larger x
 unfoldable pub placesTo : ℕ → ℕ → ℕ
@@ -43,7 +43,7 @@ widthOf b x = cond (eqb b 16) 16 (placesTo 20 x)
 
 -- x as it is written in base 10, for x below 10 ^ 20, or in base 16, for x below 2 ^ 64; of a larger x the last 20 or 16 digits
 abbrev pub numeral : ℕ → ℕ → List ℕ
-numeral b x = digits b (widthOf b x) x
+numeral b x = digitsOf b (widthOf b x) x
 
 abbrev pub space : ℕ
 space = 32

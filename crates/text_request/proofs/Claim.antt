@@ -5,7 +5,7 @@ use lib.Ieee.{Float}
 use mathlib.Core.List.{List}
 use Rattle.text_layout.specs.declared.Layout.the-variants.{NotFound, Found}
 use Rattle.refusals.specs.Table.{refused}
-use Rattle.text_request.specs.Request.{Requested, kept, requestOf}
+use Rattle.text_request.specs.Request.{Requested, keptLists, requestOf}
 use Rattle.text_request.specs.Claim.{InLayout, LayoutClaim}
 use Rattle.text_layout.specs.Layout.{cellForm, drawForm, layoutOf, valueOf}
 use Rattle.text_layout.specs.declared.Layout.{Layout}
@@ -32,7 +32,7 @@ layout-sound : (s : List ℕ) (cells : List Float) (draws : List ℕ) (l : Layou
 layout-sound s cells draws (Found n r d p q) e h = found-in s n r d p q e
 layout-sound s cells draws NotFound e h = absurd (h (ap (λ (x : Requested). x .answer .refused .number) (fault-gives s cells draws e)))
 
-layout-other : (s : List ℕ) (l : Layout) → layoutOf s ≡ l → (InLayout s → ⊥) → (cells : List Float) (draws : List ℕ) → requestOf s cells draws ≡ kept (refused 11) cells draws
+layout-other : (s : List ℕ) (l : Layout) → layoutOf s ≡ l → (InLayout s → ⊥) → (cells : List Float) (draws : List ℕ) → requestOf s cells draws ≡ keptLists (refused 11) cells draws
 layout-other s (Found n r d p q) e h cells draws = absurd (h (found-in s n r d p q e))
 layout-other s NotFound e h cells draws = fault-gives s cells draws e
 

@@ -12,7 +12,7 @@ use borrow.Author.Tests.{eq-eqb, ne-eqb}
 use lib.ListN.{getD, length, length-append}
 use lib.Seq.{getD-append-seam}
 use lib.Ieee.{Float}
-use Rattle.text_digits.specs.Digits.{byteAt, digitOf, digits, newline, numeral, placesTo, runOf, space, spelled, stopOf}
+use Rattle.text_digits.specs.Digits.{byteAt, digitOf, digitsOf, newline, numeral, placesTo, runOf, space, spelled, stopOf}
 use Rattle.text_digits.specs.Lines.{fieldsOf, lineOf}
 use Rattle.lists.specs.Sums.{allTo}
 use Rattle.lists.proofs.Sums.{all-more}
@@ -48,11 +48,11 @@ record FieldsRead (f : Form) (k x : ℕ → ℕ) (n : ℕ) (A s : List ℕ) (t :
   value : (j : ℕ) → j < t → valueOf f s (length A) j ≡ x j
 
 module _ (f : Form) (z : 0 < f .base) (h16 : f .base ≤ 16) (k x : ℕ → ℕ) (n : ℕ) (keeps : (t : ℕ) → t < n → Keeps f k x t) (A s : List ℕ) where
-  field-more : (t : ℕ) → t < n → (B : List ℕ) → s ≡ A ++ (fieldsOf (f .base) k x n t ++ (digits (f .base) (k t) (x t) ++ (stopOf t n ∷ B)))
+  field-more : (t : ℕ) → t < n → (B : List ℕ) → s ≡ A ++ (fieldsOf (f .base) k x n t ++ (digitsOf (f .base) (k t) (x t) ++ (stopOf t n ∷ B)))
       → FieldsRead f k x n A s t → FieldsRead f k x n A s (t + 1)
   field-more t l B e r =
       let F = fieldsOf (f .base) k x n t in
-      let D = digits (f .base) (k t) (x t) in
+      let D = digitsOf (f .base) (k t) (x t) in
       let c = stopOf t n in
       let e′ : s ≡ (A ++ F) ++ (D ++ (c ∷ B)) = e ∙ sym (append-assoc A F (D ++ (c ∷ B))) in
       let q : length (A ++ F) ≡ startOf f s (length A) t = length-append A F ∙ sym (r .start) in
@@ -76,7 +76,7 @@ module _ (f : Form) (z : 0 < f .base) (h16 : f .base ≤ 16) (k x : ℕ → ℕ)
   fields-read zero h B e = record { start = sym (add-zero (length A)); right = refl; value = λ j l. absurd (omega arith) }
   fields-read (suc t) h B e =
       let F = fieldsOf (f .base) k x n t in
-      let D = digits (f .base) (k t) (x t) in
+      let D = digitsOf (f .base) (k t) (x t) in
       let c = stopOf t n in
       let e′ : s ≡ A ++ (F ++ (D ++ (c ∷ B))) = e ∙ ap (λ (l : List ℕ). A ++ l) (append-assoc F (D ++ (c ∷ [])) B ∙ ap (λ (l : List ℕ). F ++ l) (append-assoc D (c ∷ []) B)) in
       rw add-one at (field-more t (omega arith) B e′ (fields-read t (omega arith) (D ++ (c ∷ B)) e′))
@@ -107,23 +107,23 @@ plain-many : (first k : ℕ) → 0 < k → (first ≡ 48 → ⊥) → plain firs
 unfolding plain
 plain-many first k h x = rw (ne-eqb k 0 (λ e. omega arith), ne-eqb first 48 x)
 
-plain-numeral : (v : ℕ) → v < 10 ^ 20 → plain (getD (digits 10 (placesTo 20 v) v) 0 0) (placesTo 20 v) ≡ true
+plain-numeral : (v : ℕ) → v < 10 ^ 20 → plain (getD (digitsOf 10 (placesTo 20 v) v) 0 0) (placesTo 20 v) ≡ true
 plain-numeral v h =
     by-cases (decLt v 10)
-    (λ y. ap (plain (getD (digits 10 (placesTo 20 v) v) 0 0)) (one-place 19 v y) ∙ plain-one (getD (digits 10 (placesTo 20 v) v) 0 0))
-    (λ g. plain-many (getD (digits 10 (placesTo 20 v) v) 0 0) (placesTo 20 v) (places-some 19 v) (first-some 20 v (omega arith) h))
+    (λ y. ap (plain (getD (digitsOf 10 (placesTo 20 v) v) 0 0)) (one-place 19 v y) ∙ plain-one (getD (digitsOf 10 (placesTo 20 v) v) 0 0))
+    (λ g. plain-many (getD (digitsOf 10 (placesTo 20 v) v) 0 0) (placesTo 20 v) (places-some 19 v) (first-some 20 v (omega arith) h))
 
 -- a number that is written is read
 pub small-back : (s A B : List ℕ) (v bound c q : ℕ) → s ≡ A ++ (numeral 10 v ++ (c ∷ B)) → v ≤ bound → bound < 10 ^ 19 → 10 ≤ digitOf c → q ≡ length A + length (numeral 10 v) + 1
     → smallAt s (length A) bound c ≡ Number v q
 small-back s A B v bound c q e h l n w =
     let k = placesTo 20 v in
-    let e′ : s ≡ A ++ (digits 10 k v ++ (c ∷ B)) = rw width-ten at e in
+    let e′ : s ≡ A ++ (digitsOf 10 k v ++ (c ∷ B)) = rw width-ten at e in
     let w′ : q ≡ length A + k + 1 = w ∙ rw (width-ten, length-digits 10 k v) in
     let big : v < 10 ^ 20 = omega arith in
     let a : k ≡ runOf 10 s (length A) 19 = sym (run-back 10 (omega arith) (omega arith) A k v c B s e′ 19 (places-short 20 18 v (omega arith) (omega arith)) n) in
     let x : v ≡ spelled 10 s (length A) k = sym (number-back 10 (omega arith) (omega arith) A k v c B s e′ (places-hold 20 v big)) in
-    let f : byteAt s (length A) ≡ getD (digits 10 k v) 0 0 = first-byte 10 (omega arith) (omega arith) A k v c B s e′ (places-some 19 v) in
+    let f : byteAt s (length A) ≡ getD (digitsOf 10 k v) 0 0 = first-byte 10 (omega arith) (omega arith) A k v c B s e′ (places-some 19 v) in
     sym (small-read s (length A) bound c v k (length A + k) x a refl (rw f (plain-numeral v big)) h (byte-behind 10 (omega arith) (omega arith) A k v c B s e′)) ∙ ap (Number v) (sym w′)
 
 -- ---- a whole text

@@ -9,7 +9,7 @@ use Rattle.lists.specs.Sums.{allTo, counted, zero64}
 use Rattle.text_digits.specs.Digits.{digitOf, runOf, spelled}
 use Rattle.text_layout.specs.Layout.{plain, smallAt, headOf, startOf, fieldOk, lineAt, listsOf, layoutOf}
 use Rattle.refusals.specs.Table.{refused}
-use Rattle.text_request.specs.Request.{kept, readAs, requestOf, sizesRead}
+use Rattle.text_request.specs.Request.{keptLists, readAs, requestOf, sizesRead}
 
 request : List ℕ
 request = 50 ∷ 32 ∷ 49 ∷ 32 ∷ 51 ∷ 10 ∷ 51 ∷ 102 ∷ 102 ∷ 48 ∷ 48 ∷ 48 ∷ 48 ∷ 48 ∷ 48 ∷ 48 ∷ 48 ∷ 48 ∷ 48 ∷ 48 ∷ 48 ∷ 48 ∷ 32 ∷ 48 ∷ 48 ∷ 48 ∷ 48 ∷ 48 ∷ 48 ∷ 48 ∷ 48 ∷ 48 ∷ 48 ∷ 48 ∷ 48 ∷ 48 ∷ 48 ∷ 48 ∷ 48 ∷ 32 ∷ 48 ∷ 48 ∷ 48 ∷ 48 ∷ 48 ∷ 48 ∷ 48 ∷ 48 ∷ 48 ∷ 48 ∷ 48 ∷ 48 ∷ 48 ∷ 48 ∷ 48 ∷ 48 ∷ 32 ∷ 51 ∷ 102 ∷ 102 ∷ 48 ∷ 48 ∷ 48 ∷ 48 ∷ 48 ∷ 48 ∷ 48 ∷ 48 ∷ 48 ∷ 48 ∷ 48 ∷ 48 ∷ 48 ∷ 10 ∷ 48 ∷ 32 ∷ 48 ∷ 32 ∷ 52 ∷ 53 ∷ 48 ∷ 51 ∷ 53 ∷ 57 ∷ 57 ∷ 54 ∷ 50 ∷ 55 ∷ 51 ∷ 55 ∷ 48 ∷ 52 ∷ 57 ∷ 54 ∷ 10 ∷ []
@@ -20,6 +20,6 @@ unfolding request requestOf readAs layoutOf listsOf headOf smallAt plain runOf d
 request-read = refl
 
 -- with room for two draws only
-request-short : requestOf request (nan ∷ nan ∷ nan ∷ nan ∷ []) (7 ∷ 7 ∷ []) ≡ kept (refused 6) (nan ∷ nan ∷ nan ∷ nan ∷ []) (7 ∷ 7 ∷ [])
+request-short : requestOf request (nan ∷ nan ∷ nan ∷ nan ∷ []) (7 ∷ 7 ∷ []) ≡ keptLists (refused 6) (nan ∷ nan ∷ nan ∷ nan ∷ []) (7 ∷ 7 ∷ [])
 unfolding request requestOf readAs layoutOf listsOf headOf smallAt plain runOf digitOf spelled lineAt allTo fieldOk startOf
 request-short = refl

@@ -18,7 +18,7 @@ use Rattle.lists.proofs.Listed.{listed-same}
 use Rattle.lists.proofs.Tests.{or-true}
 use Rattle.text_layout.specs.Layout.{cellForm, drawForm, fieldOk, layoutOf, valueOf}
 use Rattle.refusals.specs.Table.{refused}
-use Rattle.text_request.specs.Request.{Answer, Requested, kept, readAs, refusing, requestOf, sizesRead}
+use Rattle.text_request.specs.Request.{Answer, Requested, keptLists, readAs, refusing, requestOf, sizesRead}
 use Rattle.text_layout.specs.declared.Form.{Form}
 use Rattle.text_layout.specs.declared.Layout.{Layout}
 use Rattle.text_layout.specs.declared.Layout.the-variants.{NotFound, Found}
@@ -39,11 +39,11 @@ filledOf n r d c w cells draws =
     record { answer = sizesRead n r d; cells = listed (λ t. doubleOf (c t)) (n * n) ++ drop (n * n) cells; draws = listed w d ++ drop d draws }
 
 module _ (n r d : ℕ) (c w : ℕ → ℕ) (cells : List Float) (draws : List ℕ) where
-  pub as-few-cells : length cells < n * n → readAs n r d c w cells draws ≡ kept (refused 6) cells draws
+  pub as-few-cells : length cells < n * n → readAs n r d c w cells draws ≡ keptLists (refused 6) cells draws
   unfolding readAs
   as-few-cells h = rw (lt-ltb (length cells) (n * n) h)
 
-  pub as-few-draws : length draws < d → readAs n r d c w cells draws ≡ kept (refused 6) cells draws
+  pub as-few-draws : length draws < d → readAs n r d c w cells draws ≡ keptLists (refused 6) cells draws
   unfolding readAs
   as-few-draws h = rw (lt-ltb (length draws) d h, or-true (ltb (length cells) (n * n)))
 
@@ -52,7 +52,7 @@ module _ (n r d : ℕ) (c w : ℕ → ℕ) (cells : List Float) (draws : List �
   as-filled h l = rw (le-ltb (length cells) (n * n) h, le-ltb (length draws) d l)
 
 module _ (s : List ℕ) (cells : List Float) (draws : List ℕ) where
-  pub fault-gives : layoutOf s ≡ NotFound → requestOf s cells draws ≡ kept (refused 11) cells draws
+  pub fault-gives : layoutOf s ≡ NotFound → requestOf s cells draws ≡ keptLists (refused 11) cells draws
   unfolding requestOf
   fault-gives e = rw e
 
@@ -96,16 +96,16 @@ module _ (s : List ℕ) (cells : List Float) (draws : List ℕ) (n r d : ℕ) (h
       let w = valueOf drawForm s q in
       let g = found-gives s cells draws n′ r′ d′ p q e in
       by-cases (decLt (length cells) (n′ * n′))
-      (λ y. not-read 6 n r d (omega arith) (answers (kept (refused 6) cells draws) (g ∙ as-few-cells n′ r′ d′ c w cells draws y)))
+      (λ y. not-read 6 n r d (omega arith) (answers (keptLists (refused 6) cells draws) (g ∙ as-few-cells n′ r′ d′ c w cells draws y)))
       (λ y. by-cases (decLt (length draws) d′)
-      (λ z. not-read 6 n r d (omega arith) (answers (kept (refused 6) cells draws) (g ∙ as-few-draws n′ r′ d′ c w cells draws z)))
+      (λ z. not-read 6 n r d (omega arith) (answers (keptLists (refused 6) cells draws) (g ∙ as-few-draws n′ r′ d′ c w cells draws z)))
       (λ z.
       let i : n′ * n′ ≤ length cells = omega arith in
       let j : d′ ≤ length draws = omega arith in
       let k = g ∙ as-filled n′ r′ d′ c w cells draws i j in
       moved-read s cells draws n′ r′ d′ n r d (answers (filledOf n′ r′ d′ c w cells draws) k)
       (record { p = p; q = q; found = e; sizes = accepted s n′ r′ d′ p q e .sizes; cells-fit = i; draws-fit = j; gives = k })))
-  read-cases NotFound e = not-read 11 n r d (omega arith) (answers (kept (refused 11) cells draws) (fault-gives s cells draws e))
+  read-cases NotFound e = not-read 11 n r d (omega arith) (answers (keptLists (refused 11) cells draws) (fault-gives s cells draws e))
 
   pub read-from : ReadFrom s cells draws n r d
   read-from = read-cases (layoutOf s) refl

@@ -12,7 +12,7 @@ use lib.Dec.{eqb, leb}
 use lib.ListN.{drop, length}
 use lib.Seq.{drop-cons, drop-length}
 use mathlib.Core.Logic.{by-cases}
-use Rattle.text_digits.specs.Digits.{byteAt, digitOf, digits, newline, numeral, runOf, space, spelled, stopOf, widthOf}
+use Rattle.text_digits.specs.Digits.{byteAt, digitOf, digitsOf, newline, numeral, runOf, space, spelled, stopOf, widthOf}
 use Rattle.text_digits.specs.Lines.{fieldsOf, lineOf}
 use Rattle.lists.specs.Sums.{allTo}
 use Rattle.lists.proofs.Sums.{all-true}
@@ -46,7 +46,7 @@ module _ (f : Form) (z : 0 < f .base) (h16 : f .base ≤ 16) (s : List ℕ) (p n
       let k = digitsAt f s q in
       let e : byteAt s (q + k) ≡ stopOf t n = field-ends f s p n t q k (q + k) refl refl refl (h t (omega arith)) in
       let F = fieldsOf (f .base) (widthAt f s p) (valueOf f s p) n t in
-      let D = digits (f .base) k (valueOf f s p t) in
+      let D = digitsOf (f .base) k (valueOf f s p t) in
       fields-off t (λ j y. h j (omega arith))
       ∙ ap (λ (l : List ℕ). F ++ l) (run-off (f .base) z h16 s q (f .most) (stopOf t n) e (stop-positive t n))
       ∙ sym (append-assoc F (D ++ (stopOf t n ∷ [])) (drop (q + k + 1) s) ∙ ap (λ (l : List ℕ). F ++ l) (append-assoc D (stopOf t n ∷ []) (drop (q + k + 1) s)))

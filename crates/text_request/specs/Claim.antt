@@ -5,7 +5,7 @@ use mathlib.Core.List.{List}
 use lib.ListN.{length}
 use lib.Ieee.{Float}
 use Rattle.refusals.specs.Table.{refused}
-use Rattle.text_request.specs.Request.{kept, readAs, requestOf}
+use Rattle.text_request.specs.Request.{keptLists, readAs, requestOf}
 use Rattle.text_request.specs.Written.{requestText}
 
 -- what a text of the layout may say: n names, r repeats, d draws, the bits of the cells, and draw t with width t digits
@@ -38,6 +38,6 @@ pub record LayoutClaim : Type 0 where
   pub values : (s : List ℕ) (l : InLayout s) (cells : List Float) (draws : List ℕ)
       → requestOf s cells draws ≡ readAs (l .n) (l .r) (l .d) (l .cell) (l .draw) cells draws
   -- every other text is refused by 11, with both lists as they were
-  pub other : (s : List ℕ) → (InLayout s → ⊥) → (cells : List Float) (draws : List ℕ) → requestOf s cells draws ≡ kept (refused 11) cells draws
+  pub other : (s : List ℕ) → (InLayout s → ⊥) → (cells : List Float) (draws : List ℕ) → requestOf s cells draws ≡ keptLists (refused 11) cells draws
   -- and so is a text of more than 22,990 bytes
-  pub long : (s : List ℕ) → 22990 < length s → (cells : List Float) (draws : List ℕ) → requestOf s cells draws ≡ kept (refused 11) cells draws
+  pub long : (s : List ℕ) → 22990 < length s → (cells : List Float) (draws : List ℕ) → requestOf s cells draws ≡ keptLists (refused 11) cells draws

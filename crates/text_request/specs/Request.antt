@@ -65,20 +65,20 @@ pub record Requested : Type 0 where
   pub draws : List ℕ
 
 -- a refusal, with both lists as they were
-abbrev pub kept : Refusal → List Float → List ℕ → Requested
-kept q cells draws = record { answer = refusing q; cells = cells; draws = draws }
+abbrev pub keptLists : Refusal → List Float → List ℕ → Requested
+keptLists q cells draws = record { answer = refusing q; cells = cells; draws = draws }
 
 -- n names, r repeats and d draws, of these bits of cells and these draws: where both lists have room the doubles of the bits stand
 -- in the front n * n places of the one, the draws in the front d places of the other, and what lies behind them is as it was
 unfoldable pub readAs : ℕ → ℕ → ℕ → (ℕ → ℕ) → (ℕ → ℕ) → List Float → List ℕ → Requested
 readAs n r d cell draw cells draws =
-    cond (ltb (length cells) (n * n) || ltb (length draws) d) (kept (refused 6) cells draws)
+    cond (ltb (length cells) (n * n) || ltb (length draws) d) (keptLists (refused 6) cells draws)
     (record { answer = sizesRead n r d; cells = listed (λ t. doubleOf (cell t)) (n * n) ++ drop (n * n) cells; draws = listed draw d ++ drop d draws })
 
 -- the same of a layout that was looked for in the text s
 abbrev pub answeredOf : List ℕ → Layout → List Float → List ℕ → Requested
 answeredOf s (Found n r d p q) cells draws = readAs n r d (valueOf cellForm s p) (valueOf drawForm s q) cells draws
-answeredOf s NotFound cells draws = kept (refused 11) cells draws
+answeredOf s NotFound cells draws = keptLists (refused 11) cells draws
 
 -- what the text s gives
 unfoldable pub requestOf : List ℕ → List Float → List ℕ → Requested

@@ -7,7 +7,7 @@ use native.Mathlib.Nat.{add-zero, add-suc, suc-add, ne-of-lt}
 use native.Mathlib.Omega.{arith}
 use lib.ListN.{length, set, getD, take, length-append}
 use lib.Seq.{sets, set-comm, length-sets, take-suc, take-length}
-use Rattle.text_digits.specs.Digits.{digitByte, digits, widthOf, numeral}
+use Rattle.text_digits.specs.Digits.{digitByte, digitsOf, widthOf, numeral}
 use Rattle.text_digits.proofs.Numerals.{length-digits}
 use Rattle.text_writing.specs.Stores.{Wrote}
 
@@ -55,16 +55,16 @@ bytes-all {d} {d₁} {p} w i h e = rw (take-length w) at (rw e at h)
 
 -- the loop that stores digits from the last one on: one is stored, the rest is to do
 pub digit-stored : (b i rest p : ℕ) (l : List ℕ) {g : ℕ} → 0 < i → g ≡ digitByte (rest % b)
-    → sets l p (digits b i rest) ≡ sets (set l (p + (i - 1)) g) p (digits b (i - 1) (rest / b))
-unfolding digits
+    → sets l p (digitsOf b i rest) ≡ sets (set l (p + (i - 1)) g) p (digitsOf b (i - 1) (rest / b))
+unfolding digitsOf
 digit-stored b zero rest p l h e = absurd (omega arith)
 digit-stored b (suc i) rest p l h e =
-    rw (sub-one, e) (sets-last l p (digits b i (rest / b)) (digitByte (rest % b)) ∙ rw (length-digits b i (rest / b)))
+    rw (sub-one, e) (sets-last l p (digitsOf b i (rest / b)) (digitByte (rest % b)) ∙ rw (length-digits b i (rest / b)))
 
-pub no-digits : (b x p : ℕ) (l : List ℕ) → sets l p (digits b 0 x) ≡ l
-unfolding digits
+pub no-digits : (b x p : ℕ) (l : List ℕ) → sets l p (digitsOf b 0 x) ≡ l
+unfolding digitsOf
 no-digits b x p l = refl
 
 -- a number is its digits, as many as it is written with
-pub number-wrote : (d d′ : List ℕ) (p b x k : ℕ) → k ≡ widthOf b x → d′ ≡ sets d p (digits b k x) → Wrote d d′ p (numeral b x) (p + k)
+pub number-wrote : (d d′ : List ℕ) (p b x k : ℕ) → k ≡ widthOf b x → d′ ≡ sets d p (digitsOf b k x) → Wrote d d′ p (numeral b x) (p + k)
 number-wrote d d′ p b x k e h = record { stored = rw (← e) h; end = rw (length-digits b (widthOf b x) x, e) }

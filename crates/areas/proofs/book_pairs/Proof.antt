@@ -7,7 +7,7 @@ use borrow.Author.Needs.{needs}
 use Rattle.distance.specs.Distance.{distAt}
 use Rattle.lists.specs.Lists.{flat}
 use Rattle.lists.proofs.Listed.{listed-length}
-use Rattle.areas.proofs.Regions.{pairs-begin, pairs-grid}
+use Rattle.areas.proofs.Regions.{pairs-begin, pairs-matrix}
 use Rattle.areas.proofs.book_pairs.Statement.{statement}
 use Rattle.areas.proofs.book_pairs.Tie as tie
 
@@ -40,7 +40,7 @@ returns c =
     let m = length (c .before .before .before .before .before .before .before .before .before .before .before .args .rows .now) in
     let d = distAt (c .before .before .before .before .before .before .before .before .before .before .before .args .book .now) (c .before .before .before .before .before .before .before .before .before .before .before .args .n) (c .before .before .before .before .before .before .before .before .before .before .before .args .rows .now) in
     let p = c .before .before .before .before .before .before .distances-through .ensures in
-    c .before .before .pairs-in .ensures ∙ pairs-begin (c .before .before .before .before .before .before .distances-through .last .1 .1 .1 .0) (drop (m * m) (c .before .before .before .before .before .before .before .before .before .before .before .args .area .now)) m (listed-length (flat d m) (m * m) p) ∙ pairs-grid d m p
+    c .before .before .pairs-in .ensures ∙ pairs-begin (c .before .before .before .before .before .before .distances-through .last .1 .1 .1 .0) (drop (m * m) (c .before .before .before .before .before .before .before .before .before .before .before .args .area .now)) m (listed-length (flat d m) (m * m) p) ∙ pairs-matrix d m p
 
 pub book-pairs-spec : {M : Type 1} → statement M
 book-pairs-spec =

@@ -1,7 +1,7 @@
 use mathlib.Core.Path.{_∙_}
 use native.Mathlib.Omega.{arith}
 use borrow.Author.Needs.{needs}
-use Rattle.lists.proofs.Grid.{square-small}
+use Rattle.lists.proofs.Matrix.{square-small}
 use Rattle.lists.proofs.Rows.{row-end, row-small}
 use Rattle.areas.proofs.Regions.{pairs-above, pairs-length, pair-row-is}
 use Rattle.areas.proofs.pair_row.Statement.{statement}

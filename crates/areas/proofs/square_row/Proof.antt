@@ -5,7 +5,7 @@ use lib.ListN.{length}
 use borrow.Author.Needs.{needs}
 use Rattle.lists.proofs.Parts.{part-length, put-same}
 use Rattle.lists.proofs.Listed.{listed-length}
-use Rattle.lists.proofs.Grid.{square-small}
+use Rattle.lists.proofs.Matrix.{square-small}
 use Rattle.lists.proofs.Rows.{row-small}
 use Rattle.areas.proofs.Regions.{square-row-is, squares-above, squares-length, squaring-fits}
 use Rattle.areas.proofs.square_row.Statement.{statement}

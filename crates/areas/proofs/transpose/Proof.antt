@@ -7,7 +7,7 @@ use lib.Ieee.{Float}
 use borrow.Author.Needs.{needs}
 use Rattle.lists.specs.Lists.{cellAt, put}
 use Rattle.lists.proofs.Areas.{area-length, area-none, areaTo}
-use Rattle.lists.proofs.Grid.{cell-below, square-small}
+use Rattle.lists.proofs.Matrix.{cell-below, square-small}
 use Rattle.lists.proofs.Rows.{row-end, row-small}
 use Rattle.distance_columns.specs.Columns.{pointsAt}
 use Rattle.areas.proofs.Regions.{row-more, turned-row}

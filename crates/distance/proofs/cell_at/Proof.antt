@@ -3,8 +3,8 @@ use mathlib.Core.Path.{refl}
 use native.Mathlib.Omega.{arith}
 use lib.ListN.{length}
 use Rattle.lists.specs.Lists.{numbers}
-use Rattle.lists.proofs.Grid.{cell-below, square-small}
-use Rattle.distance.specs.Distance.{through}
+use Rattle.lists.proofs.Matrix.{cell-below, square-small}
+use Rattle.distance.specs.Distance.{cellThrough}
 use Rattle.distance.proofs.cell_at.Statement.{statement}
 use Rattle.distance.proofs.cell_at.Tie as tie
 
@@ -43,7 +43,7 @@ shared-slice-read-result : tie.Need-shared-slice-read-result
 shared-slice-read-result c = within (c .before .before .before)
 
 returns : tie.Need-returns
-unfolding through
+unfolding cellThrough
 returns c = refl
 
 pub cell-at-spec : {M : Type 1} → statement M

@@ -5,12 +5,12 @@ use lib.ListN.{length, length-set, set}
 use lib.Ieee.{nan}
 use borrow.Author.Needs.{needs}
 use Rattle.lists.proofs.Listed.{writes, writes-done, writes-more}
-use Rattle.distance.specs.Distance.{through}
+use Rattle.distance.specs.Distance.{cellThrough}
 use Rattle.distance.proofs.cell_row.Statement.{statement}
 use Rattle.distance.proofs.cell_row.Tie as tie
 
 abbrev Inv-loop : tie.InvT-loop
-Inv-loop book n rows i out₀ m j₀ out j = (m ≡ length rows) × (j ≤ m) × (length out ≡ m) × (out ≡ writes (through book n rows i) j out₀)
+Inv-loop book n rows i out₀ m j₀ out j = (m ≡ length rows) × (j ≤ m) × (length out ≡ m) × (out ≡ writes (cellThrough book n rows i) j out₀)
 
 abbrev μ-loop : tie.MeasureT-loop
 μ-loop book n rows i out₀ m j₀ out j = m - j

@@ -8,7 +8,7 @@ use Rattle.distance.specs.Distance.{distanceOf}
 use Rattle.lists.specs.Lists.{cells, listed}
 use Rattle.refusals.proofs.Laws.{Accepted, accepted, fits-asked, not-filled, passed, was-filled}
 use Rattle.distance.specs.Leaves.{corrToDistance}
-use Rattle.distance.proofs.Laws.{plain-grid}
+use Rattle.distance.proofs.Laws.{plain-matrix}
 use Rattle.distance.proofs.corr_to_distance.Statement.{statement}
 use Rattle.distance.proofs.corr_to_distance.Tie as tie
 
@@ -41,7 +41,7 @@ returns-2 : tie.Need-returns-2
 unfolding corrToDistance
 returns-2 c =
     was-filled (c .before .before .before .before .before .before .check .result) _ (c .before .before .before .before .before .before .check .ensures ∙ fits-asked _ _ _ _ _ _ _ (c .before .before .before .before .before .before .before .is-square .ensures .0)) _ _ (sym (c .before .before .before .before .before .number-of .ensures) ∙ c .before .before .before .before .if1 .left)
-    (c .before .before .distances-of .ensures ∙ ap (listed (λ t. distanceOf (cells (c .before .before .before .before .before .before .before .before .before .before .args .book .now) t))) (ok (c .before .before .before .before) .square) ∙ plain-grid distanceOf (c .before .before .before .before .before .before .before .before .before .before .args .book .now) (c .before .before .before .before .before .before .before .before .before .before .args .n))
+    (c .before .before .distances-of .ensures ∙ ap (listed (λ t. distanceOf (cells (c .before .before .before .before .before .before .before .before .before .before .args .book .now) t))) (ok (c .before .before .before .before) .square) ∙ plain-matrix distanceOf (c .before .before .before .before .before .before .before .before .before .before .args .book .now) (c .before .before .before .before .before .before .before .before .before .before .args .n))
 
 pub corr-to-distance-spec : {M : Type 1} → statement M
 corr-to-distance-spec =

@@ -3,14 +3,14 @@ use mathlib.Core.Path.{_∙_, _≡_, refl, sym}
 use native.Mathlib.Omega.{arith}
 use lib.ListN.{length}
 use borrow.Author.Needs.{needs}
-use Rattle.lists.proofs.Grid.{row-long, rows-done, rows-length, rows-more, rows-none, rowsTo}
+use Rattle.lists.proofs.Matrix.{row-long, rows-done, rows-length, rows-more, rows-none, rowsTo}
 use Rattle.lists.proofs.Rows.{row-end, row-small}
-use Rattle.distance.specs.Distance.{through}
+use Rattle.distance.specs.Distance.{cellThrough}
 use Rattle.distance.proofs.fill_cells.Statement.{statement}
 use Rattle.distance.proofs.fill_cells.Tie as tie
 
 abbrev Inv-loop : tie.InvT-loop
-Inv-loop book n rows out₀ m i₀ out i = (m ≡ length rows) × (i ≤ m) × (length out ≡ m * m) × (out ≡ rowsTo (through book n rows) m i out₀)
+Inv-loop book n rows out₀ m i₀ out i = (m ≡ length rows) × (i ≤ m) × (length out ≡ m * m) × (out ≡ rowsTo (cellThrough book n rows) m i out₀)
 
 abbrev μ-loop : tie.MeasureT-loop
 μ-loop book n rows out₀ m i₀ out i = m - i
@@ -22,7 +22,7 @@ inside : (c : tie.In-loop Inv-loop μ-loop) → c .before .loop .i * length (c .
 inside c = omega (arith, row-end (c .before .loop .i) (length (c .before .before .before .before .before .args .rows .now)) (c .loop-test .taken), c .before .loop .inv .2)
 
 loop-holds : tie.Need-loop-holds Inv-loop μ-loop
-loop-holds c = (refl, search needs, c .before .before .before .pre .2, rows-none (through (c .before .before .before .args .book .now) (c .before .before .before .args .n) (c .before .before .before .args .rows .now)) (length (c .before .before .before .args .rows .now)) (c .before .before .before .args .out .now))
+loop-holds c = (refl, search needs, c .before .before .before .pre .2, rows-none (cellThrough (c .before .before .before .args .book .now) (c .before .before .before .args .n) (c .before .before .before .args .rows .now)) (length (c .before .before .before .args .rows .now)) (c .before .before .before .args .out .now))
 
 mul-at : tie.Need-mul-at Inv-loop μ-loop
 mul-at c = omega (arith, small c)
@@ -55,8 +55,8 @@ loop-less c = omega arith
 
 loop-again : tie.Need-loop-again Inv-loop μ-loop
 loop-again c =
-    let q = rows-more (through (c .before .before .before .before .before .before .before .before .before .args .book .now) (c .before .before .before .before .before .before .before .before .before .args .n) (c .before .before .before .before .before .before .before .before .before .args .rows .now)) (length (c .before .before .before .before .before .before .before .before .before .args .rows .now)) (c .before .before .before .before .before .loop .i) (c .before .before .before .before .before .before .before .before .before .args .out .now) (c .before .before .before .before .before .loop .inv .3) (c .before .before .cell-row .ensures) in
-    (refl, omega arith, rows-length (through (c .before .before .before .before .before .before .before .before .before .args .book .now) (c .before .before .before .before .before .before .before .before .before .args .n) (c .before .before .before .before .before .before .before .before .before .args .rows .now)) (length (c .before .before .before .before .before .before .before .before .before .args .rows .now)) (c .before .before .before .before .before .loop .i + 1) (c .before .before .before .before .before .before .before .before .before .args .out .now) q (omega arith) (c .before .before .before .before .before .before .before .before .before .pre .2), q)
+    let q = rows-more (cellThrough (c .before .before .before .before .before .before .before .before .before .args .book .now) (c .before .before .before .before .before .before .before .before .before .args .n) (c .before .before .before .before .before .before .before .before .before .args .rows .now)) (length (c .before .before .before .before .before .before .before .before .before .args .rows .now)) (c .before .before .before .before .before .loop .i) (c .before .before .before .before .before .before .before .before .before .args .out .now) (c .before .before .before .before .before .loop .inv .3) (c .before .before .cell-row .ensures) in
+    (refl, omega arith, rows-length (cellThrough (c .before .before .before .before .before .before .before .before .before .args .book .now) (c .before .before .before .before .before .before .before .before .before .args .n) (c .before .before .before .before .before .before .before .before .before .args .rows .now)) (length (c .before .before .before .before .before .before .before .before .before .args .rows .now)) (c .before .before .before .before .before .loop .i + 1) (c .before .before .before .before .before .before .before .before .before .args .out .now) q (omega arith) (c .before .before .before .before .before .before .before .before .before .pre .2), q)
 
 same-length : tie.Need-same-length Inv-loop μ-loop
 same-length c = c .before .loop .inv .2 ∙ sym (c .before .before .before .before .before .pre .2)
@@ -64,7 +64,7 @@ same-length c = c .before .loop .inv .2 ∙ sym (c .before .before .before .befo
 returns : tie.Need-returns Inv-loop μ-loop
 returns c =
     let e : c .before .loop .i ≡ length (c .before .before .before .before .before .args .rows .now) = omega arith in
-    rows-done (through (c .before .before .before .before .before .args .book .now) (c .before .before .before .before .before .args .n) (c .before .before .before .before .before .args .rows .now)) (length (c .before .before .before .before .before .args .rows .now)) (c .before .before .before .before .before .args .out .now) (rw e at (c .before .loop .inv .3)) (c .before .before .before .before .before .pre .2)
+    rows-done (cellThrough (c .before .before .before .before .before .args .book .now) (c .before .before .before .before .before .args .n) (c .before .before .before .before .before .args .rows .now)) (length (c .before .before .before .before .before .args .rows .now)) (c .before .before .before .before .before .args .out .now) (rw e at (c .before .loop .inv .3)) (c .before .before .before .before .before .pre .2)
 
 pub fill-cells-spec : {M : Type 1} → statement M
 fill-cells-spec =

@@ -3,7 +3,7 @@ use mathlib.Core.Path.{_∙_, _≡_, refl, sym}
 use native.Mathlib.Omega.{arith}
 use lib.ListN.{length}
 use borrow.Author.Needs.{needs}
-use Rattle.lists.proofs.Grid.{row-long, rows-done, rows-length, rows-more, rows-none, rowsTo}
+use Rattle.lists.proofs.Matrix.{row-long, rows-done, rows-length, rows-more, rows-none, rowsTo}
 use Rattle.lists.proofs.Rows.{row-end, row-small}
 use Rattle.distance.specs.Distance.{distAt}
 use Rattle.distance.proofs.fill_distances.Statement.{statement}

@@ -6,7 +6,7 @@ use mir.Syntax.{w64}
 use mir.ValLaws.{toZ-ofZ}
 use lib.IntN.{pos}
 use Rattle.intake.specs.Intake.{causeAt}
-use Rattle.lists.proofs.Grid.{square-small}
+use Rattle.lists.proofs.Matrix.{square-small}
 use Rattle.intake.proofs.Faults.{mirror-below, some-names}
 use Rattle.intake.proofs.cause_at.Statement.{statement}
 use Rattle.intake.proofs.cause_at.Tie as tie

@@ -1,6 +1,6 @@
 use mathlib.Core.Path.{_∙_, sym}
 use native.Mathlib.Omega.{arith}
-use Rattle.lists.proofs.Grid.{square-small}
+use Rattle.lists.proofs.Matrix.{square-small}
 use Rattle.intake.proofs.Faults.{is-fault, no-fault, third-fault}
 use Rattle.intake.proofs.check_cells.Statement.{statement}
 use Rattle.intake.proofs.check_cells.Tie as tie

@@ -4,7 +4,7 @@ use native.Mathlib.Omega.{arith}
 use lib.Dec.{ltb}
 use Rattle.intake.specs.Intake.{causeAt}
 use Rattle.lists.specs.Lists.{firstTo}
-use Rattle.lists.proofs.Grid.{square-small}
+use Rattle.lists.proofs.Matrix.{square-small}
 use Rattle.intake.proofs.Faults.{fault-found, fault-more, fault-none}
 use Rattle.intake.proofs.first_fault.Statement.{statement}
 use Rattle.intake.proofs.first_fault.Tie as tie

@@ -8,7 +8,7 @@ use Rattle.draws.specs.Counts.{seedingOf}
 use Rattle.distance_columns.specs.Pair.{squaredAt}
 use Rattle.distance_columns.specs.Columns.{pointsAt}
 use Rattle.plusplus.proofs.Turns.{seeded-same}
-use Rattle.plusplus.proofs.Same.{seeding-grid}
+use Rattle.plusplus.proofs.Same.{seeding-matrix}
 use Rattle.kmeans.proofs.Fronts.{third-area, third-ready}
 use Rattle.kmeans.proofs.seed_in.Statement.{statement}
 use Rattle.kmeans.proofs.seed_in.Tie as tie
@@ -52,7 +52,7 @@ returns c =
     let m = c .before .before .before .before .before .before .before .before .before .before .before .before .args .m in
     let k = length (c .before .before .before .before .before .before .before .before .before .before .before .before .args .centres .now) in
     let ds = drop (c .before .before .before .before .before .before .before .before .before .before .before .before .args .at) (c .before .before .before .before .before .before .before .before .before .before .before .before .args .draws .now) in
-    seeded-same _ _ _ (c .before .before .before .before .before .before .before .before .before .before .before .before .args .at + seedingOf k) _ _ (seeding-grid (squaredAt (pointsAt a m) m) m k (c .before .before .before .before .before .before .before .before .before .before .before .before .args .at) ds (c .before .before .before .before .before .before .before .before .before .before .before .before .pre .0 .some) (third-area a m (c .before .before .before .before .before .before .before .before .before .before .before .before .pre .0))) refl (rw (c .before .before .before .before .before .before .before .before .before .before .before .before .pre .2) at (c .before .before .before .before .seed .ensures))
+    seeded-same _ _ _ (c .before .before .before .before .before .before .before .before .before .before .before .before .args .at + seedingOf k) _ _ (seeding-matrix (squaredAt (pointsAt a m) m) m k (c .before .before .before .before .before .before .before .before .before .before .before .before .args .at) ds (c .before .before .before .before .before .before .before .before .before .before .before .before .pre .0 .some) (third-area a m (c .before .before .before .before .before .before .before .before .before .before .before .before .pre .0))) refl (rw (c .before .before .before .before .before .before .before .before .before .before .before .before .pre .2) at (c .before .before .before .before .seed .ensures))
 
 pub seed-in-spec : {M : Type 1} → statement M
 seed-in-spec =

@@ -1,7 +1,7 @@
 use mathlib.Core.Path.{_∙_, _≡_, refl, sym}
 use borrow.Author.Tests.{le-ltb, lt-ltb}
 use borrow.Author.Needs.{needs}
-use Rattle.refusals.specs.Table.{numberOf, when}
+use Rattle.refusals.specs.Table.{numberOf, whenever}
 use Rattle.kmeans_answers.specs.Leaf.{leafRefusal}
 use Rattle.kmeans_answers.proofs.Laws.{above, below-is}
 use Rattle.kmeans_answers.proofs.check.Statement.{statement}
@@ -23,25 +23,25 @@ returns c =
     (c .answered .ensures .0 ∙ above (c .before .before .before .check .result) _ (c .before .before .before .check .ensures) zero, c .answered .ensures .1)
 
 returns-2 : tie.Need-returns-2
-unfolding leafRefusal when
+unfolding leafRefusal whenever
 returns-2 c =
     let zero : numberOf (c .before .before .before .check .result) ≡ 0 = sym (c .before .before .number-of .ensures) ∙ c .before .if1 .left in
     (rw (below-is (c .before .before .before .check .result) _ (c .before .before .before .check .ensures) zero, lt-ltb _ _ (c .if2 .taken)), refl)
 
 returns-3 : tie.Need-returns-3
-unfolding leafRefusal when
+unfolding leafRefusal whenever
 returns-3 c =
     let zero : numberOf (c .before .before .before .before .check .result) ≡ 0 = sym (c .before .before .before .number-of .ensures) ∙ c .before .before .if1 .left in
     (rw (below-is (c .before .before .before .before .check .result) _ (c .before .before .before .before .check .ensures) zero, le-ltb _ _ (c .before .if2 .left), lt-ltb _ _ (c .if3 .taken)), refl)
 
 returns-4 : tie.Need-returns-4
-unfolding leafRefusal when
+unfolding leafRefusal whenever
 returns-4 c =
     let zero : numberOf (c .before .before .before .before .before .check .result) ≡ 0 = sym (c .before .before .before .before .number-of .ensures) ∙ c .before .before .before .if1 .left in
     (rw (below-is (c .before .before .before .before .before .check .result) _ (c .before .before .before .before .before .check .ensures) zero, le-ltb _ _ (c .before .before .if2 .left), le-ltb _ _ (c .before .if3 .left), lt-ltb _ _ (c .if4 .taken)), refl)
 
 returns-5 : tie.Need-returns-5
-unfolding leafRefusal when
+unfolding leafRefusal whenever
 returns-5 c =
     let zero : numberOf (c .before .before .before .before .before .check .result) ≡ 0 = sym (c .before .before .before .before .number-of .ensures) ∙ c .before .before .before .if1 .left in
     (rw (below-is (c .before .before .before .before .before .check .result) _ (c .before .before .before .before .before .check .ensures) zero, le-ltb _ _ (c .before .before .if2 .left), le-ltb _ _ (c .before .if3 .left), le-ltb _ _ (c .if4 .left)), refl)

@@ -7,7 +7,7 @@ use lib.Ieee.{nan}
 use borrow.Author.Needs.{needs}
 use Rattle.lists.specs.Lists.{cellAt}
 use Rattle.lists.proofs.Listed.{writes, writes-done, writes-more}
-use Rattle.lists.proofs.Grid.{cell-below}
+use Rattle.lists.proofs.Matrix.{cell-below}
 use Rattle.lists.proofs.Rows.{row-small}
 use Rattle.lists.proofs.copy_column.Statement.{statement}
 use Rattle.lists.proofs.copy_column.Tie as tie

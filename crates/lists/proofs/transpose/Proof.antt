@@ -6,7 +6,7 @@ use lib.ListN.{length}
 use lib.Ieee.{Float}
 use borrow.Author.Needs.{needs}
 use Rattle.lists.specs.Lists.{cellAt}
-use Rattle.lists.proofs.Grid.{rows-done, rows-length, rows-more, rows-none, rowsTo}
+use Rattle.lists.proofs.Matrix.{rows-done, rows-length, rows-more, rows-none, rowsTo}
 use Rattle.lists.proofs.Rows.{part-row, row-end, row-length, row-small}
 use Rattle.lists.proofs.transpose.Statement.{statement}
 use Rattle.lists.proofs.transpose.Tie as tie

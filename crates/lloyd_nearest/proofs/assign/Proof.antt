@@ -6,7 +6,7 @@ use lib.Ieee.{Float}
 use borrow.Author.Needs.{needs}
 use Rattle.lists.specs.Lists.{cells, listed, row}
 use Rattle.lists.proofs.Listed.{listed-length}
-use Rattle.lists.proofs.Grid.{row-long}
+use Rattle.lists.proofs.Matrix.{row-long}
 use Rattle.lloyd_nearest.specs.Nearest.{nearestTo}
 use Rattle.lloyd_nearest.proofs.Steps.{dists-more, dists-none, labels-more, labels-none}
 use Rattle.lloyd_nearest.proofs.assign.Statement.{statement}

@@ -7,7 +7,7 @@ use borrow.Author.Needs.{needs}
 use Rattle.lloyd_nearest.specs.Nearest.{nearestTo}
 use Rattle.lists.specs.Lists.{cells, part, row}
 use Rattle.lists.proofs.Listed.{listed-same}
-use Rattle.lists.proofs.Grid.{square-small}
+use Rattle.lists.proofs.Matrix.{square-small}
 use Rattle.lloyd_table.specs.Area.{tableRow}
 use Rattle.lloyd_table.proofs.Rows.{in-table}
 use Rattle.lloyd_pass.proofs.assign_in.Statement.{statement}

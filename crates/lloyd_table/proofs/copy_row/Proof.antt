@@ -3,7 +3,7 @@ use mathlib.Core.List.{List}
 use native.Mathlib.Omega.{arith}
 use lib.Ieee.{Float}
 use borrow.Author.Needs.{needs}
-use Rattle.lists.proofs.Grid.{square-small}
+use Rattle.lists.proofs.Matrix.{square-small}
 use Rattle.lists.proofs.Rows.{row-end, row-small}
 use Rattle.lloyd_table.specs.Area.{withRow}
 use Rattle.lloyd_table.proofs.Rows.{pair-cells, row-fits}

@@ -3,7 +3,7 @@ use mathlib.Core.Path.{_∙_}
 use native.Mathlib.Omega.{arith}
 use lib.ListN.{length}
 use borrow.Author.Needs.{needs}
-use Rattle.lists.proofs.Grid.{square-small}
+use Rattle.lists.proofs.Matrix.{square-small}
 use Rattle.lists.proofs.Rows.{row-small}
 use Rattle.lists.proofs.Parts.{put-same}
 use Rattle.lloyd_table.proofs.Rows.{row-fits}

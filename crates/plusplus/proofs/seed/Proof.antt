@@ -14,7 +14,7 @@ use Rattle.plusplus_trials.specs.Trials.{table}
 use Rattle.lists.specs.Lists.{listed, row}
 use Rattle.draws.proofs.Taken.{draw-value}
 use Rattle.lists.proofs.Listed.{listed-of}
-use Rattle.lists.proofs.Grid.{row-long}
+use Rattle.lists.proofs.Matrix.{row-long}
 use Rattle.plusplus.proofs.Turns.{seeded-same, seeded-stopped, seeding-stopped, seeding-value}
 use Rattle.draws.specs.declared.Draw.the-variants.{Value}
 use Rattle.plusplus.proofs.seed.Statement.{statement}

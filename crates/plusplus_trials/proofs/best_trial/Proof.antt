@@ -5,7 +5,7 @@ use lib.ListN.{drop, length}
 use lib.Ieee.{Float}
 use borrow.Author.Needs.{needs}
 use Rattle.draws.specs.Stops.{drawOf}
-use Rattle.draws.specs.Draws.{one}
+use Rattle.draws.specs.Draws.{oneDraw}
 use Rattle.plusplus_pick.specs.Potentials.{limit}
 use Rattle.plusplus_trials.specs.Trials.{table, triedOf}
 use Rattle.lists.specs.Sums.{sumTo}
@@ -20,10 +20,10 @@ abbrev total : tie.Start → Float
 total s = sumTo (cells (s .args .weights .now)) (length (s .args .weights .now))
 
 -- what the first draw answers
-answer-is : (c : tie.After-draw-below) → c .draw-below .result ≡ drawOf (one (limit (total (c .before .before .before .before .before .before .before .before .before .before)) (length (c .before .before .before .before .before .before .before .before .before .before .args .weights .now))) (c .before .before .before .before .before .before .before .before .before .before .args .at) (drop (c .before .before .before .before .before .before .before .before .before .before .args .at) (c .before .before .before .before .before .before .before .before .before .before .args .draws .now)))
+answer-is : (c : tie.After-draw-below) → c .draw-below .result ≡ drawOf (oneDraw (limit (total (c .before .before .before .before .before .before .before .before .before .before)) (length (c .before .before .before .before .before .before .before .before .before .before .args .weights .now))) (c .before .before .before .before .before .before .before .before .before .before .args .at) (drop (c .before .before .before .before .before .before .before .before .before .before .args .at) (c .before .before .before .before .before .before .before .before .before .before .args .draws .now)))
 answer-is c =
     let a = c .before .before .before .before .before .before .before .before .before .before .args in
-    c .draw-below .ensures ∙ ap (λ (x : ℕ). drawOf (one x (a .at) (drop (a .at) (a .draws .now)))) (c .before .limit .ensures ∙ ap (λ (x : Float). limit x (length (a .weights .now))) (c .before .before .before .before .sum-weights .ensures .0))
+    c .draw-below .ensures ∙ ap (λ (x : ℕ). drawOf (oneDraw x (a .at) (drop (a .at) (a .draws .now)))) (c .before .limit .ensures ∙ ap (λ (x : Float). limit x (length (a .weights .now))) (c .before .before .before .before .sum-weights .ensures .0))
 
 inside : (s : tie.Start) → s .args .at < length (s .args .draws .now)
 inside s = omega (arith, s .pre .1 .0, s .pre .1 .1)

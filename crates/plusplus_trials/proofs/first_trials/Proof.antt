@@ -4,7 +4,7 @@ use native.Mathlib.Omega.{arith}
 use lib.ListN.{drop, length}
 use borrow.Author.Needs.{needs}
 use Rattle.draws.specs.Stops.{drawOf}
-use Rattle.draws.specs.Draws.{one}
+use Rattle.draws.specs.Draws.{oneDraw}
 use Rattle.plusplus_pick.specs.Potentials.{better, limit, trial}
 use Rattle.plusplus_trials.specs.Trials.{against, table, triedOf}
 use Rattle.lists.specs.Lists.{cells}
@@ -25,8 +25,8 @@ abbrev start : tie.Start → Trial
 start s = trial (table (s .args .squares .now) (length (s .args .weights .now))) (cells (s .args .weights .now)) (s .args .total) (length (s .args .weights .now)) (s .args .c)
 
 -- what the draw answers
-answer-is : (c : tie.After-draw-below) → c .draw-below .result ≡ drawOf (one (most (c .before .before .before .before .before .before)) (c .before .before .before .before .before .before .args .from) (drop (c .before .before .before .before .before .before .args .from) (c .before .before .before .before .before .before .args .draws .now)))
-answer-is c = c .draw-below .ensures ∙ ap (λ (x : ℕ). drawOf (one x (c .before .before .before .before .before .before .args .from) (drop (c .before .before .before .before .before .before .args .from) (c .before .before .before .before .before .before .args .draws .now)))) (c .before .limit .ensures)
+answer-is : (c : tie.After-draw-below) → c .draw-below .result ≡ drawOf (oneDraw (most (c .before .before .before .before .before .before)) (c .before .before .before .before .before .before .args .from) (drop (c .before .before .before .before .before .before .args .from) (c .before .before .before .before .before .before .args .draws .now)))
+answer-is c = c .draw-below .ensures ∙ ap (λ (x : ℕ). drawOf (oneDraw x (c .before .before .before .before .before .before .args .from) (drop (c .before .before .before .before .before .before .args .from) (c .before .before .before .before .before .before .args .draws .now)))) (c .before .limit .ensures)
 
 inside : (s : tie.Start) → s .args .from < length (s .args .draws .now)
 inside s = omega (arith, s .pre .1 .1, s .pre .1 .2)

@@ -4,7 +4,7 @@ use native.Mathlib.Omega.{arith}
 use lib.ListN.{drop, length}
 use borrow.Author.Needs.{needs}
 use Rattle.draws.specs.Stops.{drawOf}
-use Rattle.draws.specs.Draws.{one}
+use Rattle.draws.specs.Draws.{oneDraw}
 use Rattle.plusplus_pick.specs.Potentials.{better, limit}
 use Rattle.plusplus_trials.specs.Trials.{against, table}
 use Rattle.lists.specs.Lists.{cells}
@@ -20,8 +20,8 @@ step s = against (table (s .args .squares .now) (length (s .args .weights .now))
 abbrev top : tie.Start → ℕ
 top s = limit (s .args .total) (length (s .args .weights .now))
 
-answer-is : (c : tie.After-draw-below) → c .draw-below .result ≡ drawOf (one (top (c .before .before .before .before .before .before .before)) (c .before .before .before .before .before .before .before .args .from) (drop (c .before .before .before .before .before .before .before .args .from) (c .before .before .before .before .before .before .before .args .draws .now)))
-answer-is c = c .draw-below .ensures ∙ ap (λ (x : ℕ). drawOf (one x (c .before .before .before .before .before .before .before .args .from) (drop (c .before .before .before .before .before .before .before .args .from) (c .before .before .before .before .before .before .before .args .draws .now)))) (c .before .limit .ensures)
+answer-is : (c : tie.After-draw-below) → c .draw-below .result ≡ drawOf (oneDraw (top (c .before .before .before .before .before .before .before)) (c .before .before .before .before .before .before .before .args .from) (drop (c .before .before .before .before .before .before .before .args .from) (c .before .before .before .before .before .before .before .args .draws .now)))
+answer-is c = c .draw-below .ensures ∙ ap (λ (x : ℕ). drawOf (oneDraw x (c .before .before .before .before .before .before .before .args .from) (drop (c .before .before .before .before .before .before .before .args .from) (c .before .before .before .before .before .before .before .args .draws .now)))) (c .before .limit .ensures)
 
 returns : tie.Need-returns
 returns c = rw (take-none (top (c .before .before .before .before .before)) (step (c .before .before .before .before .before)) (drop (c .before .before .before .before .before .args .from) (c .before .before .before .before .before .args .draws .now)) (c .before .before .before .before .before .args .end) (c .before .before .before .before .before .args .from) (c .before .before .before .before .before .args .b) (c .if1 .taken)) refl

@@ -4,7 +4,7 @@ use native.Mathlib.Omega.{arith}
 use lib.ListN.{drop, length}
 use borrow.Author.Needs.{needs}
 use Rattle.draws.specs.Stops.{drawOf}
-use Rattle.draws.specs.Draws.{takes, one}
+use Rattle.draws.specs.Draws.{takes, oneDraw}
 use Rattle.plusplus_pick.specs.Potentials.{better, limit}
 use Rattle.plusplus_trials.specs.Trials.{against, table, triedOf}
 use Rattle.lists.specs.Lists.{cells}
@@ -31,11 +31,11 @@ abbrev most : tie.Start Inv-loop μ-loop → ℕ
 most s = limit (s .args .total) (length (s .args .weights .now))
 
 -- what the draws of a turn answer
-answer-is : (c : tie.After-draw-below Inv-loop μ-loop) → c .draw-below .result ≡ drawOf (one (most (c .before .before .before .before .before .before .before .before)) (c .before .before .loop .i) (drop (c .before .before .loop .i) (c .before .before .before .before .before .before .before .before .args .draws .now)))
-answer-is c = c .draw-below .ensures ∙ ap (λ (x : ℕ). drawOf (one x (c .before .before .loop .i) (drop (c .before .before .loop .i) (c .before .before .before .before .before .before .before .before .args .draws .now)))) (c .before .before .loop .inv .0)
+answer-is : (c : tie.After-draw-below Inv-loop μ-loop) → c .draw-below .result ≡ drawOf (oneDraw (most (c .before .before .before .before .before .before .before .before)) (c .before .before .loop .i) (drop (c .before .before .loop .i) (c .before .before .before .before .before .before .before .before .args .draws .now)))
+answer-is c = c .draw-below .ensures ∙ ap (λ (x : ℕ). drawOf (oneDraw x (c .before .before .loop .i) (drop (c .before .before .loop .i) (c .before .before .before .before .before .before .before .before .args .draws .now)))) (c .before .before .loop .inv .0)
 
-answer-is-2 : (c : tie.After-draw-below2 Inv-loop μ-loop) → c .draw-below2 .result ≡ drawOf (one (most (c .before .before .before .before .before .before .before .before .before .before .before .before)) (c .before .before .before .before .before .before .loop .i + 1) (drop (c .before .before .before .before .before .before .loop .i + 1) (c .before .before .before .before .before .before .before .before .before .before .before .before .args .draws .now)))
-answer-is-2 c = c .draw-below2 .ensures ∙ ap (λ (x : ℕ). drawOf (one x (c .before .before .before .before .before .before .loop .i + 1) (drop (c .before .before .before .before .before .before .loop .i + 1) (c .before .before .before .before .before .before .before .before .before .before .before .before .args .draws .now)))) (c .before .before .before .before .before .before .loop .inv .0)
+answer-is-2 : (c : tie.After-draw-below2 Inv-loop μ-loop) → c .draw-below2 .result ≡ drawOf (oneDraw (most (c .before .before .before .before .before .before .before .before .before .before .before .before)) (c .before .before .before .before .before .before .loop .i + 1) (drop (c .before .before .before .before .before .before .loop .i + 1) (c .before .before .before .before .before .before .before .before .before .before .before .before .args .draws .now)))
+answer-is-2 c = c .draw-below2 .ensures ∙ ap (λ (x : ℕ). drawOf (oneDraw x (c .before .before .before .before .before .before .loop .i + 1) (drop (c .before .before .before .before .before .before .loop .i + 1) (c .before .before .before .before .before .before .before .before .before .before .before .before .args .draws .now)))) (c .before .before .before .before .before .before .loop .inv .0)
 
 -- the first draw of a turn is in range
 stepped : (c : tie.After-draw-below Inv-loop μ-loop) {d : ℕ} → c .draw-below .result ≡ Value d → c .before .before .loop .i + 1 < c .before .before .before .before .before .before .before .before .args .from + c .before .before .before .before .before .before .before .before .args .more

@@ -4,7 +4,7 @@ use native.Mathlib.Omega.{arith}
 use lib.ListN.{length}
 use Rattle.plusplus_pick.specs.Potentials.{pick, running}
 use Rattle.lists.specs.Lists.{cells}
-use Rattle.lists.proofs.Grid.{row-long}
+use Rattle.lists.proofs.Matrix.{row-long}
 use Rattle.plusplus_pick.proofs.Picks.{pick-below, pick-summed, summed-length}
 use Rattle.plusplus_trials.proofs.try_two.Statement.{statement}
 use Rattle.plusplus_trials.proofs.try_two.Tie as tie

@@ -4,7 +4,7 @@ use native.Mathlib.Omega.{arith}
 use lib.ListN.{length, take}
 use lib.Seq.{length-take-le}
 use borrow.Author.Needs.{needs}
-use Rattle.lists.proofs.Grid.{square-small}
+use Rattle.lists.proofs.Matrix.{square-small}
 use Rattle.silhouette_areas.proofs.Laws.{fourth-scores, fourth-shape}
 use Rattle.silhouette_areas.proofs.scores_in.Statement.{statement}
 use Rattle.silhouette_areas.proofs.scores_in.Tie as tie

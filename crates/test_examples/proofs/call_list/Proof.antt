@@ -2,7 +2,7 @@ use mathlib.Core.Path.{ap}
 use borrow.Author.Tests.{eq-eqb, ne-eqb}
 use borrow.Author.Needs.{needs}
 use Rattle.refusals.specs.Table.{Filled}
-use Rattle.test_examples.specs.Cases.{kept, listOf}
+use Rattle.test_examples.specs.Cases.{keptFloats, listOf}
 use Rattle.test_examples.proofs.call_list.Statement.{statement}
 use Rattle.test_examples.proofs.call_list.Tie as tie
 
@@ -14,7 +14,7 @@ same-length c = search needs
 
 returns : tie.Need-returns
 unfolding listOf
-returns c = rw (eq-eqb _ _ (c .before .before .before .before .if1 .taken)) (ap (λ (l : Filled). kept l (c .before .before .before .before .before .before .before .before .before .before .args .floats .now)) (c .before .before .corr-to-distance .ensures))
+returns c = rw (eq-eqb _ _ (c .before .before .before .before .if1 .taken)) (ap (λ (l : Filled). keptFloats l (c .before .before .before .before .before .before .before .before .before .before .args .floats .now)) (c .before .before .corr-to-distance .ensures))
 
 corr-to-distance-through-requires : tie.Need-corr-to-distance-through-requires
 corr-to-distance-through-requires c κs = tt
@@ -24,7 +24,7 @@ same-length-2 c = search needs
 
 returns-2 : tie.Need-returns-2
 unfolding listOf
-returns-2 c = rw (ne-eqb _ _ (c .before .before .before .before .before .before .if1 .left), eq-eqb _ _ (c .before .before .before .before .if2 .taken)) (ap (λ (l : Filled). kept l (c .before .before .before .before .before .before .before .before .before .before .before .before .args .floats .now)) (c .before .before .corr-to-distance-through .ensures))
+returns-2 c = rw (ne-eqb _ _ (c .before .before .before .before .before .before .if1 .left), eq-eqb _ _ (c .before .before .before .before .if2 .taken)) (ap (λ (l : Filled). keptFloats l (c .before .before .before .before .before .before .before .before .before .before .before .before .args .floats .now)) (c .before .before .corr-to-distance-through .ensures))
 
 submatrix-requires : tie.Need-submatrix-requires
 submatrix-requires c κs = tt
@@ -34,7 +34,7 @@ same-length-3 c = search needs
 
 returns-3 : tie.Need-returns-3
 unfolding listOf
-returns-3 c = rw (ne-eqb _ _ (c .before .before .before .before .before .before .before .before .if1 .left), ne-eqb _ _ (c .before .before .before .before .before .before .if2 .left), eq-eqb _ _ (c .before .before .before .before .if3 .taken)) (ap (λ (l : Filled). kept l (c .before .before .before .before .before .before .before .before .before .before .before .before .before .before .args .floats .now)) (c .before .before .submatrix .ensures))
+returns-3 c = rw (ne-eqb _ _ (c .before .before .before .before .before .before .before .before .if1 .left), ne-eqb _ _ (c .before .before .before .before .before .before .if2 .left), eq-eqb _ _ (c .before .before .before .before .if3 .taken)) (ap (λ (l : Filled). keptFloats l (c .before .before .before .before .before .before .before .before .before .before .before .before .before .before .args .floats .now)) (c .before .before .submatrix .ensures))
 
 pairwise-distances-requires : tie.Need-pairwise-distances-requires
 pairwise-distances-requires c κs = tt

@@ -7,7 +7,7 @@ use mir.ValLaws.{toZ-ofZ}
 use lib.IntN.{pos}
 use Rattle.lists.specs.Lists.{flat}
 use Rattle.lists.proofs.Listed.{writes, writes-done, writes-one}
-use Rattle.lists.proofs.Grid.{column-below, row-below}
+use Rattle.lists.proofs.Matrix.{column-below, row-below}
 use Rattle.intake.proofs.Faults.{some-names}
 use Rattle.test_intake.specs.Cases.{madeCell}
 use Rattle.test_intake.proofs.Laws.{book-small}

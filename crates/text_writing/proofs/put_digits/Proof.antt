@@ -5,13 +5,13 @@ use native.Mathlib.Omega.{arith}
 use native.Mathlib.Nat.{mod-lt}
 use lib.ListN.{length, length-set}
 use lib.Seq.{sets}
-use Rattle.text_digits.specs.Digits.{digits}
+use Rattle.text_digits.specs.Digits.{digitsOf}
 use Rattle.text_writing.proofs.Stores.{digit-stored, no-digits}
 use Rattle.text_writing.proofs.put_digits.Statement.{statement}
 use Rattle.text_writing.proofs.put_digits.Tie as tie
 
 abbrev Inv-loop : tie.InvT-loop
-Inv-loop out₀ at x base k i₀ rest₀ out i rest = (i ≤ k) × (length out ≡ length out₀) × (sets out₀ at (digits base k x) ≡ sets out at (digits base i rest))
+Inv-loop out₀ at x base k i₀ rest₀ out i rest = (i ≤ k) × (length out ≡ length out₀) × (sets out₀ at (digitsOf base k x) ≡ sets out at (digitsOf base i rest))
 
 abbrev μ-loop : tie.MeasureT-loop
 μ-loop out₀ at x base k i₀ rest₀ out i rest = i

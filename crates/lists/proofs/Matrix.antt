@@ -1,4 +1,4 @@
--- Matrices of m rows of m cells that lie row by row in a list: `grid g m` has g i j in row i and column j.
+-- Matrices of m rows of m cells that lie row by row in a list: `matrixOf g m` has g i j in row i and column j.
 use Prim.Native.Nat.{ℕ, zero, suc, _+_, _-_, _*_, _/_, _%_, _<_, _≤_}
 use mathlib.Core.Path.{_≡_, sym, _∙_, ap}
 use mathlib.Core.List.{List, _∷_, _++_, append-assoc, append-nil}
@@ -7,7 +7,7 @@ use native.Mathlib.Numerals.{add-one}
 use native.Mathlib.Omega.{arith}
 use lib.ListN.{length, getD, take, drop, length-take, length-drop, length-append, drop-of-length-le}
 use lib.Seq.{getD-take, getD-drop, drop-drop, take-at, drop-at}
-use Rattle.lists.specs.Lists.{listed, row, flat, grid}
+use Rattle.lists.specs.Lists.{listed, row, flat, matrixOf}
 use Rattle.lists.proofs.Listed.{length-listed, getD-listed, listed-of, listed-same}
 use Rattle.lists.proofs.Rows.{row-end}
 
@@ -35,12 +35,12 @@ module _ {A : Type 0} where
   pub flat-at : (g : ℕ → ℕ → A) (m i j : ℕ) → j < m → flat g m (i * m + j) ≡ g i j
   flat-at g m i j l = rw (row-of-cell i j m l, column-of-cell i j m l)
 
-  pub grid-at : (g : ℕ → ℕ → A) (m i j : ℕ) (z : A) → i < m → j < m → getD (grid g m) (i * m + j) z ≡ g i j
-  grid-at g m i j z h l = getD-listed (flat g m) (m * m) (i * m + j) z (cell-below i j m h l) ∙ flat-at g m i j l
+  pub matrix-at : (g : ℕ → ℕ → A) (m i j : ℕ) (z : A) → i < m → j < m → getD (matrixOf g m) (i * m + j) z ≡ g i j
+  matrix-at g m i j z h l = getD-listed (flat g m) (m * m) (i * m + j) z (cell-below i j m h l) ∙ flat-at g m i j l
 
   -- the same of a list that is known to be the matrix
-  pub in-grid : (g : ℕ → ℕ → A) (m i j : ℕ) (z : A) {xs : List A} → xs ≡ grid g m → i < m → j < m → getD xs (i * m + j) z ≡ g i j
-  in-grid g m i j z e h l = rw e (grid-at g m i j z h l)
+  pub in-matrix : (g : ℕ → ℕ → A) (m i j : ℕ) (z : A) {xs : List A} → xs ≡ matrixOf g m → i < m → j < m → getD xs (i * m + j) z ≡ g i j
+  in-matrix g m i j z e h l = rw e (matrix-at g m i j z h l)
 
   -- a cell of a row is a cell of the whole
   pub row-cell : (z : A) (p : List A) (m i j : ℕ) → j < m → getD (row p m i) j z ≡ getD p (i * m + j) z
@@ -49,13 +49,13 @@ module _ {A : Type 0} where
   pub row-long : (p : List A) (m i : ℕ) → m * m ≤ length p → i < m → length (row p m i) ≡ m
   row-long p m i e h = let q = row-end i m h in simp (length-take, length-drop) (omega arith)
 
-  pub row-grid : (z : A) (g : ℕ → ℕ → A) (m i : ℕ) {xs : List A} → xs ≡ grid g m → i < m → row xs m i ≡ listed (g i) m
-  row-grid z g m i {xs} e h =
+  pub row-matrix : (z : A) (g : ℕ → ℕ → A) (m i : ℕ) {xs : List A} → xs ≡ matrixOf g m → i < m → row xs m i ≡ listed (g i) m
+  row-matrix z g m i {xs} e h =
       listed-of z (g i) m (row xs m i) (row-long xs m i (rw (e, length-listed (flat g m) (m * m)) (omega arith)) h)
-      (λ k l. row-cell z xs m i k l ∙ in-grid g m i k z e h l)
+      (λ k l. row-cell z xs m i k l ∙ in-matrix g m i k z e h l)
 
-  pub grid-same : (z : A) (g h : ℕ → ℕ → A) (m : ℕ) → ((i j : ℕ) → i < m → j < m → g i j ≡ h i j) → grid g m ≡ grid h m
-  grid-same z g h m e = listed-same z (flat g m) (flat h m) (m * m)
+  pub matrix-same : (z : A) (g h : ℕ → ℕ → A) (m : ℕ) → ((i j : ℕ) → i < m → j < m → g i j ≡ h i j) → matrixOf g m ≡ matrixOf h m
+  matrix-same z g h m e = listed-same z (flat g m) (flat h m) (m * m)
       (λ t l. by-zero m t l e)
     where
       by-zero : (m t : ℕ) → t < m * m → ((i j : ℕ) → i < m → j < m → g i j ≡ h i j) → g (t / m) (t % m) ≡ h (t / m) (t % m)
@@ -87,8 +87,8 @@ module _ {A : Type 0} where
       rw (k, s, e, q, take-at L (drop (i * m) d) (i * m) (length-listed f (i * m)), drop-at L (drop (i * m) d) (i * m) (length-listed f (i * m)), drop-drop m (i * m) d)
       (sym (append-assoc L (listed (g i) m) (drop (i * m + m) d)) ∙ ap (λ (x : List A). x ++ drop (i * m + m) d) (ap (λ (x : List A). L ++ x) t ∙ listed-append f (i * m) m))
 
-  pub rows-done : (g : ℕ → ℕ → A) (m : ℕ) {xs : List A} (d : List A) → xs ≡ rowsTo g m m d → length d ≡ m * m → xs ≡ grid g m
-  rows-done g m d e h = let q : length d ≤ m * m = omega arith in e ∙ rw (drop-of-length-le d q) (append-nil (grid g m))
+  pub rows-done : (g : ℕ → ℕ → A) (m : ℕ) {xs : List A} (d : List A) → xs ≡ rowsTo g m m d → length d ≡ m * m → xs ≡ matrixOf g m
+  rows-done g m d e h = let q : length d ≤ m * m = omega arith in e ∙ rw (drop-of-length-le d q) (append-nil (matrixOf g m))
 
   pub rows-length : (g : ℕ → ℕ → A) (m i : ℕ) {xs : List A} (d : List A) → xs ≡ rowsTo g m i d → i ≤ m → length d ≡ m * m → length xs ≡ m * m
   rows-length g m i d e h l = rw e (simp (length-append, length-listed, length-drop) (omega (arith, mul-le-mul-right m h)))
