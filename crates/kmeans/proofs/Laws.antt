@@ -19,7 +19,7 @@ use Rattle.draws.specs.Draws.{Drawn, drawn, refused}
 use Rattle.draws.specs.declared.Stop.{Stop}
 use Rattle.draws.specs.declared.Stop.the-variants.{DrawOutOfRange}
 use Rattle.draws.proofs.Taken.{Ends, Among, behind, then-ends, then-behind, then-same}
-use Rattle.plusplus.specs.Seeding.{seeding, SeededBy, AllBelow}
+use Rattle.plusplus.specs.Seeding.{seeding, SeededBy, EachBelow}
 use Rattle.plusplus.specs.declared.Seeded as seeded
 use Rattle.plusplus.proofs.Seeds.{seeding-took, seeding-behind, seed-done, seed-stopped}
 use Rattle.plusplus.proofs.Same.{seeding-same}
@@ -68,7 +68,7 @@ module _ (x : ℕ → ℕ → Float) (m k : ℕ) (z : 0 < m) (one-of : 0 < k) wh
   pub kmeans-took : (at : ℕ) (ds : List ℕ) → Ends (Took m k ds) (Among at (seedingOf k)) (kmeansOf x m k at ds)
   unfolding kmeansOf
   kmeans-took at ds =
-      then-ends (λ cs rest. (length cs ≡ k) × AllBelow m cs × (rest ≡ drop (seedingOf k) ds) × (seedingOf k ≤ length ds)) (Among at (seedingOf k))
+      then-ends (λ cs rest. (length cs ≡ k) × EachBelow m cs × (rest ≡ drop (seedingOf k) ds) × (seedingOf k ≤ length ds)) (Among at (seedingOf k))
       (Took m k ds) (Among at (seedingOf k))
       (seeding (squaredAt x m) m k at ds) (λ cs rest. drawn (grouped x m k cs) rest)
       (seeding-took (squaredAt x m) m k z one-of at ds)
@@ -80,7 +80,7 @@ module _ (x : ℕ → ℕ → Float) (m k : ℕ) (z : 0 < m) (one-of : 0 < k) wh
   unfolding kmeansOf
   kmeans-behind at p b l =
       rw (seeding-behind (squaredAt x m) m k z one-of at p b l)
-      (then-behind (λ cs rest. (length cs ≡ k) × AllBelow m cs × (rest ≡ drop (seedingOf k) p) × (seedingOf k ≤ length p)) (Among at (seedingOf k))
+      (then-behind (λ cs rest. (length cs ≡ k) × EachBelow m cs × (rest ≡ drop (seedingOf k) p) × (seedingOf k ≤ length p)) (Among at (seedingOf k))
       (seeding (squaredAt x m) m k at p) (λ cs rest. drawn (grouped x m k cs) rest) b
       (seeding-took (squaredAt x m) m k z one-of at p) (λ cs rest h. refl))
 
@@ -130,7 +130,7 @@ pub kmeans-same : (x y : ℕ → ℕ → Float) (m k : ℕ) → 0 < m → 0 < k 
 unfolding kmeansOf
 kmeans-same x y m k z one-of agree at ds =
     rw (seeding-same (squaredAt x m) (squaredAt y m) m z (λ p i h l. squared-same x y m p i agree h l) k at ds)
-    (then-same (λ cs rest. (length cs ≡ k) × AllBelow m cs × (rest ≡ drop (seedingOf k) ds) × (seedingOf k ≤ length ds)) (Among at (seedingOf k))
+    (then-same (λ cs rest. (length cs ≡ k) × EachBelow m cs × (rest ≡ drop (seedingOf k) ds) × (seedingOf k ≤ length ds)) (Among at (seedingOf k))
     (seeding (squaredAt y m) m k at ds) (λ cs rest. drawn (grouped x m k cs) rest) (λ cs rest. drawn (grouped y m k cs) rest)
     (seeding-took (squaredAt y m) m k z one-of at ds)
     (λ cs rest h. let e = lloyd-same x y m k (numbers cs) agree (rw (h .0) at (h .1)) in rw (e .0, e .1)))

@@ -18,23 +18,23 @@ use Rattle.plusplus_pick.specs.Potentials.{with}
 use Rattle.plusplus_trials.specs.Trials.{nextOf}
 use Rattle.plusplus_trials.proofs.Centring.{next-took, next-behind}
 use Rattle.plusplus.specs.declared.Seeded.the-variants.{Done, Stopped}
-use Rattle.plusplus.specs.Seeding.{centresOf, seeding, AllBelow, SeededBy}
+use Rattle.plusplus.specs.Seeding.{centresOf, seeding, EachBelow, SeededBy}
 
-below-one : (m c : ℕ) → c < m → AllBelow m (c ∷ [])
+below-one : (m c : ℕ) → c < m → EachBelow m (c ∷ [])
 below-one m c h zero l = h
 below-one m c h (suc i) l = absurd (omega arith)
 
-below-snoc : (m c : ℕ) (cs : List ℕ) → c < m → AllBelow m cs → AllBelow m (cs ++ (c ∷ []))
+below-snoc : (m c : ℕ) (cs : List ℕ) → c < m → EachBelow m cs → EachBelow m (cs ++ (c ∷ []))
 below-snoc m c [] h b i l = below-one m c h i l
 below-snoc m c (x ∷ cs) h b zero l = b 0 (omega arith)
 below-snoc m c (x ∷ cs) h b (suc i) l = below-snoc m c cs h (λ j k. b (suc j) (omega arith)) i (omega arith)
 
 -- what holds of n centres, once c draws have been taken
 abbrev Took : ℕ → ℕ → ℕ → List ℕ → List ℕ → List ℕ → Type 0
-Took m n c ds cs rest = (length cs ≡ n) × AllBelow m cs × (rest ≡ drop c ds) × (c ≤ length ds)
+Took m n c ds cs rest = (length cs ≡ n) × EachBelow m cs × (rest ≡ drop c ds) × (c ≤ length ds)
 
 module _ (q : ℕ → ℕ → Float) (m t : ℕ) (z : 0 < m) (some : 0 < t) where
-  centres-took : (j : ℕ) (ws : List Float) (cs : List ℕ) (at : ℕ) (ds : List ℕ) → AllBelow m cs
+  centres-took : (j : ℕ) (ws : List Float) (cs : List ℕ) (at : ℕ) (ds : List ℕ) → EachBelow m cs
       → Ends (Took m (length cs + j) (j * t) ds) (Among at (j * t)) (centresOf q m t j ws cs at ds)
   unfolding centresOf
   centres-took zero ws cs at ds b = (omega arith, b, rw (zero-mul t) refl, rw (zero-mul t) zero-le)
@@ -68,7 +68,7 @@ module _ (q : ℕ → ℕ → Float) (m t : ℕ) (z : 0 < m) (some : 0 < t) wher
 module _ (q : ℕ → ℕ → Float) (m k : ℕ) (z : 0 < m) (one-of : 0 < k) where
   -- A seeding that is not refused gives k centres, each an item, and takes exactly its count of draws; a draw out of range stands among those.
   pub seeding-took : (at : ℕ) (ds : List ℕ)
-      → Ends (λ cs rest. (length cs ≡ k) × AllBelow m cs × (rest ≡ drop (seedingOf k) ds) × (seedingOf k ≤ length ds)) (λ p. (at ≤ p) × (p < at + seedingOf k)) (seeding q m k at ds)
+      → Ends (λ cs rest. (length cs ≡ k) × EachBelow m cs × (rest ≡ drop (seedingOf k) ds) × (seedingOf k ≤ length ds)) (λ p. (at ≤ p) × (p < at + seedingOf k)) (seeding q m k at ds)
   unfolding seeding
   seeding-took at ds =
       then-ends (λ d rest. (d < m) × (rest ≡ drop 1 ds) × (1 ≤ length ds)) (λ p. (at ≤ p) × (p < at + 1))
@@ -116,7 +116,7 @@ stopped-is (refused p) {next} {q} {l} s =
 
 module _ (q : ℕ → ℕ → Float) (m k : ℕ) (z : 0 < m) (one-of : 0 < k) (at : ℕ) (ds : List ℕ) (next : ℕ) (l : List ℕ) where
   pub seed-done : {n : ℕ} → SeededBy (seeding q m k at ds) next (Done n) l
-      → (n ≡ next) × (length l ≡ k) × AllBelow m l × (seeding q m k at ds ≡ drawn l (drop (seedingOf k) ds)) × (seedingOf k ≤ length ds)
+      → (n ≡ next) × (length l ≡ k) × EachBelow m l × (seeding q m k at ds ≡ drawn l (drop (seedingOf k) ds)) × (seedingOf k ≤ length ds)
   seed-done s =
       let v = done-is (seeding q m k at ds) s in
       let t = subst (Ends (Took m k (seedingOf k) ds) (Among at (seedingOf k))) (v .2) (seeding-took q m k z one-of at ds) in

@@ -44,8 +44,8 @@ CentresAfter (drawn cs rest) l = l ≡ cs
 CentresAfter (refused p) l = Unit
 
 -- every centre is an item
-abbrev pub AllBelow : ℕ → List ℕ → Type 0
-AllBelow m cs = (i : ℕ) → i < length cs → numbers cs i < m
+abbrev pub EachBelow : ℕ → List ℕ → Type 0
+EachBelow m cs = (i : ℕ) → i < length cs → numbers cs i < m
 
 -- k centres among m items, and draws enough for them from `at` on
 pub record MaySeed (m k : ℕ) (draws : List ℕ) (at : ℕ) : Type 0 where
