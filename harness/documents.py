@@ -4,12 +4,13 @@
 docs/REVIEW.md: each file is there and defines the names that stand behind it, each contract and edit is there, each kind of case, and each sentence
 that is quoted. docs/READING.md: both ways, each crate stands in the map with its line of crates.txt and each file of definitions in the reading order,
 and each crate, file and name on the page is there. What a line of its picture joins is a call. README.md and the other documents: their paths are there, and
-each name in backticks stands in a source, outside its comments.
+each name in backticks stands in a source, outside its comments. Definitions: where the kit is at hand, none has a name that the kit's library has.
 
     python3 harness/documents.py
 """
 import os
 import re
+import shutil
 import sys
 
 os.chdir(os.path.join(os.path.dirname(os.path.abspath(__file__)), ".."))
@@ -155,6 +156,16 @@ for document in ["README.md"] + [p for p in below("docs") if p != "docs/REVIEW.m
             # a suffix, a prefix, and a name with f or g in it for a function's, stand for many names
             some = name in words or name.startswith("_") and any(w.endswith(name) for w in words) or name.endswith("_") and any(w.startswith(name) for w in words)
             has(where, some or re.search(r"\b[fg]\b", name), f"nothing is called {name}")
+
+# a name of a contract means one thing to its reader: no definition has that of one of the kit's library
+rt = shutil.which("rt")
+library = os.path.join(os.path.dirname(os.path.dirname(os.path.realpath(rt))), "logic", "Lib") if rt else ""
+made = r"(?:(?:abbrev|unfoldable|opaque) )*pub (\S+) +:"
+theirs = {name for path in below(library) if path.endswith(".antt") for name in re.findall("^ *" + made, text(path), re.M)}
+for path in below("crates"):
+    if "/specs/" in path:
+        for name in re.findall("^" + made, text(path), re.M):
+            has(path, name not in theirs, f"the kit's library has another {name}")
 
 for fault in faults:
     print(fault)
