@@ -3,7 +3,7 @@ use Prim.Native.Nat.{ℕ, zero, suc, _+_, _-_, _*_, _^_, _<_, _≤_, max}
 use mathlib.Core.Path.{_≡_, refl, sym, _∙_, ap, subst}
 use mathlib.Core.Bool.{Bool, true}
 use mathlib.Core.Logic.{by-cases}
-use native.Mathlib.Nat.{add-zero, add-suc, pow-suc, pow-le-pow-left, mul-assoc, mul-le-mul-left, mul-lt-mul-of-pos-right, lt-of-le-of-lt, lt-of-lt-of-le, not-le-of-lt}
+use native.Mathlib.Nat.{add-zero, add-suc, suc-add, pow-suc, pow-le-pow-left, mul-assoc, mul-add, mul-left-comm, mul-le-mul-left, mul-lt-mul-of-pos-left, mul-lt-mul-of-pos-right, lt-of-le-of-lt, lt-of-lt-of-le, not-le-of-lt}
 use native.Mathlib.Decide.{decLt}
 use native.Mathlib.Omega.{arith}
 use borrow.Author.Tests.{leb-true, ltb-true}
@@ -14,14 +14,35 @@ use Rattle.draws.specs.Counts.{trialsOf, seedingsOf, countOf}
 use Rattle.draws.specs.Claim.{belowE, aboveE, scaleE, factorial, scaledSum, BoundsOfE, WholeLn, lnPart, sumFrom, roundDraws, CountClaim}
 use Rattle.draws.proofs.Counting.{trials-two}
 
--- computed
-pub bounds-of-e : BoundsOfE
+-- the sums of the series stay above the one bound, and at least `scaleE` below the other
+sums-above : (n : ℕ) → belowE * factorial (n + 14) < scaledSum (n + 14) * scaleE
 unfolding factorial scaledSum
-bounds-of-e =
-    record {
-      above = ltb-true (belowE * factorial 14) (scaledSum 14 * scaleE) refl;
-      below = ltb-true ((14 * scaledSum 14 + 1) * scaleE) (aboveE * (14 * factorial 14)) refl;
-    }
+sums-above zero = ltb-true (belowE * factorial 14) (scaledSum 14 * scaleE) refl
+sums-above (suc n) =
+    let f = factorial (n + 14) in
+    let s = scaledSum (n + 14) in
+    let m = suc (n + 14) in
+    let h : m * (belowE * f) < m * (s * scaleE) = mul-lt-mul-of-pos-left (sums-above n) (omega arith) in
+    let e : m * (belowE * f) ≡ belowE * (m * f) = mul-left-comm m belowE f in
+    let d : m * (s * scaleE) ≡ m * s * scaleE = sym (mul-assoc m s scaleE) in
+    let l : belowE * (m * f) < (m * s + 1) * scaleE = omega (arith, h, e, d) in
+    subst (λ (i : ℕ). belowE * factorial i < scaledSum i * scaleE) (sym (suc-add n 14)) l
+
+sums-below : (n : ℕ) → (scaledSum (n + 14) + 1) * scaleE ≤ aboveE * factorial (n + 14)
+unfolding factorial scaledSum
+sums-below zero = leb-true ((scaledSum 14 + 1) * scaleE) (aboveE * factorial 14) refl
+sums-below (suc n) =
+    let f = factorial (n + 14) in
+    let s = scaledSum (n + 14) in
+    let m = suc (n + 14) in
+    let h : m * ((s + 1) * scaleE) ≤ m * (aboveE * f) = mul-le-mul-left m (sums-below n) in
+    let e : m * (aboveE * f) ≡ aboveE * (m * f) = mul-left-comm m aboveE f in
+    let d : m * ((s + 1) * scaleE) ≡ (m * s + m * 1) * scaleE = sym (mul-assoc m (s + 1) scaleE) ∙ ap (λ (x : ℕ). x * scaleE) (mul-add m s 1) in
+    let l : (m * s + 1 + 1) * scaleE ≤ aboveE * (m * f) = omega (arith, h, e, d) in
+    subst (λ (i : ℕ). (scaledSum i + 1) * scaleE ≤ aboveE * factorial i) (sym (suc-add n 14)) l
+
+pub bounds-of-e : BoundsOfE
+bounds-of-e = record { above = sums-above; below = λ n. omega (arith, sums-below n) }
 
 -- one test for each k from 2 to 256, computed
 at-most : ℕ → Bool
@@ -89,4 +110,4 @@ counts ln h m few =
     ∙ ap (sumFrom (λ i. 1 + (i - 1) * (2 + ln i)) 2) e
 
 pub count-claim : CountClaim
-count-claim = record { bounds = bounds-of-e; some = whole-ln; count = counts }
+count-claim = record { bounds = bounds-of-e; some = whole-ln; trials = λ k two few. omega (arith, trials-two k); count = counts }

@@ -23,13 +23,12 @@ unfoldable pub scaledSum : ℕ → ℕ
 scaledSum zero = 1
 scaledSum (suc n) = suc n * scaledSum n + 1
 
--- e is the sum of 1 / i! for all i. The terms up to 1 / 14! are above 2.7182818284, and with 1 / (14 * 14!), which is more than all terms behind them, they are
--- below 2.7182818285.
+-- e is the limit of the sums of 1 / i!. From the one up to 1 / 14! on each of them is above 2.7182818284 and below 2.7182818285.
 pub record BoundsOfE : Type 0 where
-  pub above : belowE * factorial 14 < scaledSum 14 * scaleE
-  pub below : (14 * scaledSum 14 + 1) * scaleE < aboveE * (14 * factorial 14)
+  pub above : (n : ℕ) → belowE * factorial (n + 14) < scaledSum (n + 14) * scaleE
+  pub below : (n : ℕ) → scaledSum (n + 14) * scaleE < aboveE * factorial (n + 14)
 
--- w is the whole part of ln k: e to the power w is at most k, and to the next power above it
+-- the upper bound of e to the power w is at most k, and the lower bound to the next power is above k: so w is the whole part of ln k
 pub record WholeLn (k w : ℕ) : Type 0 where
   pub least : aboveE ^ w ≤ k * scaleE ^ w
   pub most : k * scaleE ^ suc w < belowE ^ suc w
@@ -51,8 +50,10 @@ roundDraws ln m = sumBetween (λ k. 1 + (k - 1) * (2 + ln k)) 2 (max 2 (m - 1))
 abbrev pub lnPart : ℕ → ℕ
 lnPart k = trialsOf k - 2
 
--- What is proved of the counts: the bounds are those of e, `lnPart` gives these whole parts, and with any function that does the count is the sum.
+-- What is proved of the counts: the bounds are those of e; `lnPart` gives these whole parts, and the trials are 2 more; and the count is the sum with any function
+-- that gives them.
 pub record CountClaim : Type 0 where
   pub bounds : BoundsOfE
   pub some : (k : ℕ) → 2 ≤ k → k ≤ 256 → WholeLn k (lnPart k)
+  pub trials : (k : ℕ) → 2 ≤ k → k ≤ 256 → trialsOf k ≡ 2 + lnPart k
   pub count : (ln : ℕ → ℕ) → ((k : ℕ) → 2 ≤ k → k ≤ 256 → WholeLn k (ln k)) → (m : ℕ) → m ≤ 256 → countOf m ≡ roundDraws ln m

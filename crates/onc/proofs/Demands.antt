@@ -1,9 +1,9 @@
 -- The three demands, of every call (specs/Demands.antt).
-use Rattle.draws.proofs.Claim.{whole-ln, bounds-of-e}
+use Rattle.draws.proofs.Claim.{count-claim}
 use Rattle.onc.specs.Demands.{Demands}
 use Rattle.onc.proofs.Calls.{first}
 use Rattle.onc.proofs.Groupings.{second}
 use Rattle.onc.proofs.Reading.{third}
 
 pub demands : Demands
-demands = record { first = first; second = second; third = third; logarithms = whole-ln; bounds = bounds-of-e }
+demands = record { first = first; second = second; third = third; counts = count-claim }

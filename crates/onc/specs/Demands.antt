@@ -10,7 +10,7 @@ use Rattle.lists.specs.Lists.{listed, numbers, cellAt}
 use Rattle.refusals.specs.Table.{none, wiped, wipedNumbers}
 use Rattle.distance.specs.Distance.{distAt}
 use Rattle.silhouette_areas.specs.Scoring.{scoresOf}
-use Rattle.draws.specs.Claim.{BoundsOfE, WholeLn, lnPart, roundDraws}
+use Rattle.draws.specs.Claim.{WholeLn, roundDraws, CountClaim}
 use Rattle.draws.specs.Draws.{Drawn, drawn, refused}
 use Rattle.draws.specs.declared.Stop.the-variants.{Rounds, Short, DrawOutOfRange, ClusteringFailed}
 use Rattle.partition.specs.Partition.{Partition, State, has, groupAt, labelOf, joined}
@@ -116,7 +116,7 @@ pub record GroupingOf (book : List Float) (n : ℕ) (s : State) (o : Outcome) : 
 abbrev pub searchOf : List Float → ℕ → ℕ → List ℕ → (before items : List ℕ) → Drawn Best
 searchOf book n repeat draws before items = bestOf (distAt book n items) (length items) repeat (totalOf repeat before) (drop (totalOf repeat before) draws)
 
--- it finds the candidate c, and takes exactly its count of draws
+-- it finds the candidate c, and takes exactly the round's count of draws
 abbrev pub Finds : List Float → ℕ → ℕ → List ℕ → (before items : List ℕ) → Candidate → Type 0
 Finds book n repeat draws before items c =
     searchOf book n repeat draws before items ≡ drawn (found c) (drop (totalOf repeat before + needOf repeat (length items)) draws)
@@ -132,17 +132,17 @@ pub data Reached (book : List Float) (n repeat : ℕ) (draws : List ℕ) : List 
   next : (before items : List ℕ) (c : Candidate) → Reached book n repeat draws before items → Finds book n repeat draws before items c
       → 2 < weakIn items c → Reached book n repeat draws (before ++ (length items ∷ [])) (rowsOf items (weakItems (baseOf (length items) c)))
 
--- the base with its weak groups replaced by the groups of a round over their items, scored afresh
+-- the groups of the base that are not weak, then the groups of a round over the items of the others, scored afresh
 abbrev pub mergedIn : List Float → ℕ → List ℕ → Candidate → State → State
 mergedIn book n items c inner = rescored (distAt book n items) (length items) (mergedOf (baseOf (length items) c) (inner .groups))
 
--- the average of its groups' t-stats is above that of the base's weak groups
+-- the average of the t-stats of all these groups is above that of the base's weak groups
 abbrev pub improves : List Float → ℕ → List ℕ → Candidate → State → Bool
 improves book n items c inner = lt (weakMean (qualitiesOf (c .scores) (baseOf (length items) c .groups))) (meanQuality (mergedIn book n items c inner))
 
 -- How the partition s comes out of a round over `items`, after rounds of `before` items. With two weak groups or fewer it is the round's base: the groups
 -- and the scores of the candidate that its search finds. With more, the round over the items of the weak groups gives the partition `inner`: s is the base with
--- the groups of `inner` in place of the weak ones where that improves, and else the base.
+-- the groups of `inner` in place of the weak ones (`mergedIn`) where `improves` holds, and else the base.
 pub data Made (book : List Float) (n repeat : ℕ) (draws : List ℕ) : List ℕ → List ℕ → State → Type 0 where
   few-weak : (before items : List ℕ) (c : Candidate) → Finds book n repeat draws before items c → weakIn items c ≤ 2
       → Made book n repeat draws before items (baseOf (length items) c)
@@ -202,7 +202,7 @@ sumOver f [] = 0
 sumOver f (m ∷ ms) = f m + sumOver f ms
 
 -- `count` is the sum over rounds of m items, for each m of ms: `repeat` times the sum, for k from 2 to the larger of 2 and m - 1, of 1 + (k - 1) times (2 + the
--- whole part of ln k). `ln` is any function that gives these whole parts; `Demands` names one
+-- whole part of ln k). `ln` is any function that gives these whole parts; `counts` of Demands has one
 abbrev pub SumOf : (repeat : ℕ) → List ℕ → ℕ → Type 0
 SumOf repeat ms count = (ln : ℕ → ℕ) → ((k : ℕ) → 2 ≤ k → k ≤ 256 → WholeLn k (ln k)) → count ≡ sumOver (λ m. repeat * roundDraws ln m) ms
 
@@ -218,10 +218,10 @@ pub record Counted (book : List Float) (rows cols repeat : ℕ) (draws : List �
   pub same-labels : (draws′ : List ℕ) (l′ : Lists) → AsLong l l′ → take count draws′ ≡ take count draws
       → labelsIn rows (outputs (groupOf book rows cols repeat draws′ l′)) ≡ labelsIn rows (outputs (groupOf book rows cols repeat draws l))
 
--- What a run of n names reads of its draws, however it ends. At most 32 rounds start, and their draws were there. A grouping comes after a round that is
--- reached and finds a candidate with two weak groups or fewer, and its partition s is what `Made` says of the first round, over all names. 9 and 7 are met by
--- a round that is reached and does not start: 9 after 32 rounds, 7 after fewer where fewer draws remain than the round needs, and 7 gives the sum over the rounds
--- that started. 8 is met at a draw out of range, and at no other. 3 is not met: every round that starts and is not ended by 8 finds a candidate.
+-- How a run of n names ends. A grouping comes after a round that is reached and finds a candidate with two weak groups or fewer, and its partition s is what
+-- `Made` says of the first round, over all names. 9 and 7 are met by a round that is reached and does not start: 9 after 32 rounds, 7 after fewer where fewer
+-- draws remain than the round needs, and 7 gives the sum over the rounds that started. 8 is met at a draw out of range, and at no other. 3 is not met: every
+-- round that starts and is not ended by 8 finds a candidate.
 abbrev pub EndsBy : List Float → ℕ → ℕ → List ℕ → Run → Type 0
 EndsBy book n repeat draws (done s ms read rest) =
     (read ≡ totalOf repeat ms) × (rest ≡ drop read draws) × Made book n repeat draws [] (listed (λ i. i) n) s
@@ -241,8 +241,9 @@ StoppedBy q (ended (Short k) ms) = ⊥
 StoppedBy q (ended (DrawOutOfRange p) ms) = p ≤ q
 StoppedBy q (ended ClusteringFailed ms) = ⊥
 
--- All draws that a run reads are in range, but for the one that 8 names (`in-range`): a draw out of range, of any round that started, ends the run with 8, there
--- or at one in front of it. The rounds that started are those that are reached after fewer rounds than started.
+-- What a run of n names reads of its draws, however it ends. At most 32 rounds start, and their draws were there. All draws that it reads are in range, but for
+-- the one that 8 names (`in-range`): a draw out of range, of any round that started, ends the run with 8, there or at one in front of it. The rounds that started
+-- are those that are reached after fewer rounds than started.
 pub record DrawsRead (book : List Float) (n repeat : ℕ) (draws : List ℕ) (r : Run) : Type 0 where
   pub rounds : length (roundsOf r) ≤ 32
   pub there : totalOf repeat (roundsOf r) ≤ length draws
@@ -259,8 +260,10 @@ Tells (ended (DrawOutOfRange p) ms) a = a ≡ refusing (record { number = 8; pla
 Tells (ended ClusteringFailed ms) a = ⊥
 
 -- Demand 3: how many draws a call reads. Where it ends in a grouping, no others matter (`Counted`); 7 gives the sum over the rounds that started; and each way in
--- which a run ends is told by its number and place, and met as `EndsBy` says. The runs of calls have 2 to 256 names and one repeat or more. `reads` is true of no
--- other run (`only`): a definition that takes a draw out of range, always keeps the base or makes one group of every book does not meet it.
+-- which a run ends is told by its number and place, and met as `EndsBy` says. The runs of calls have 2 to 256 names and one repeat or more. What `reads` says is true
+-- of no other run (`only`). It cites these parts of a round, which are read in their definitions: `distAt`, `bestOf`, `baseOf`, `qualitiesOf`, `weakCount`,
+-- `weakMean`, `weakItems`, `rowsOf`, `mergedOf`, `rescored`, `meanQuality`. With these as they are, a run that takes a draw out of range, always keeps the base or
+-- makes one group of every book does not meet it.
 pub record Demand3 (book : List Float) (rows cols repeat : ℕ) (draws : List ℕ) (l : Lists) : Type 0 where
   pub grouped : groupOf book rows cols repeat draws l .answer .refused .number ≡ 0
       → Counted book rows cols repeat draws l (groupOf book rows cols repeat draws l .answer .read)
@@ -276,6 +279,5 @@ pub record Demands : Type 0 where
       → Demand1 book rows cols repeat (groupOf book rows cols repeat draws l) l
   pub second : (book : List Float) (n repeat : ℕ) (draws : List ℕ) (l : Lists) → Within book n repeat l → Demand2 book n repeat draws l
   pub third : (book : List Float) (rows cols repeat : ℕ) (draws : List ℕ) (l : Lists) → Demand3 book rows cols repeat draws l
-  -- the whole parts of logarithms of which the third speaks, and the bounds of e by which it does
-  pub logarithms : (k : ℕ) → 2 ≤ k → k ≤ 256 → WholeLn k (lnPart k)
-  pub bounds : BoundsOfE
+  -- the whole parts of logarithms that `SumOf` asks for, the bounds of e in them, and each round's count
+  pub counts : CountClaim
