@@ -1,5 +1,6 @@
 #!/usr/bin/env bash
-# Builds the library and tests it from C, Rust and Python, and runs the commands of README.md and docs/CALLS.md; the last line says that all passed.
+# Builds the library and tests it from C, Rust and Python, runs once what of the harness the gate does not test, and runs the commands of README.md
+# and docs/CALLS.md; the last line says that all passed.
 #   bash bindings/test.sh
 # LIBRARY names an archive with all the functions, to use instead of the one that bindings/build.sh makes; CC the C compiler (cc); PYTHON the
 # interpreter (python3).
@@ -36,17 +37,17 @@ echo "read-only data: $constants bytes"
 
 echo "== C"
 compile() {
-  "${CC:-cc}" -std=c99 -pedantic -Wall -Wextra -Werror -Iinclude -o "$work/$1" "bindings/c/$1.c" "$2"
+  "${CC:-cc}" -std=c99 -pedantic -Wall -Wextra -Werror -Iinclude -o "$work/$(basename "$1" .c)" "$@"
 }
-compile example "$archive"
+compile bindings/c/example.c "$archive"
 prints "$work/example" <<END
 names 4 groups 2 draws 10
 1 1 0 0
 3fe5badbd0cf64da 3fe5badbd0cf64da 3fe5badbd0cf64da 3fe5badbd0cf64da
 END
-compile test "$archive"
+compile bindings/c/test.c "$archive"
 "$work/test"
-compile test "$shared"
+compile bindings/c/test.c "$shared"
 LD_LIBRARY_PATH=$(dirname "$shared") "$work/test"
 
 echo "== Rust"
@@ -80,6 +81,45 @@ cd ../..
 echo "== Python"
 export ONC_LIBRARY=$shared
 (cd bindings/python && "${PYTHON:-python3}" -m unittest)
+
+echo "== the harness"
+rt staticlib harness_exports >&2
+exported=$(nm --defined-only target/staticlib/libharness_exports.a | awk '$2 == "T" && $3 ~ /^onc_/ { print $3 }' | sort)
+called=$(grep -o 'onc_[a-z_]*(' harness/exports.c | tr -d '(' | sort -u)
+[ "$called" = "$exported" ] || fail "harness/exports.c calls other functions than harness_exports has: $exported"
+compile harness/exports.c target/staticlib/libharness_exports.a -lm
+"$work/exports"
+rt check text_written >&2
+"${PYTHON:-python3}" harness/modules.py text_written >"$work/printed" || fail "harness/modules.py ended with status $?"
+# the loading, then a line for each module, then one for each function
+awk '
+  NR == 1 && /^ *[0-9]+\.[0-9][0-9]  loading/ { loading++ }
+  /^by function$/ { by++ }
+  /^ *[0-9]+\.[0-9][0-9]  Rattle.text_written/ { if (by) functions++; else modules++ }
+  END { exit !(loading && modules && by == 1 && functions) }
+' "$work/printed" || { cat "$work/printed"; fail "harness/modules.py printed something else"; }
+echo "harness/modules.py: $(wc -l <"$work/printed") lines on text_written"
+cat >"$work/gate.log" <<END
+rt: lists proved (9 s)
+rt: must-fail lists/above_the_limit: refused, as it must be (first at proofs/first_from/Proof.antt:34:74; 8 s)
+rt: sqrt proved (8 s)
+rt: must-fail sqrt/cut_not_rounded: refused, as it must be (first at proofs/rounded_by_digits/Proof.antt:17:13; 8 s)
+rt: must-fail sqrt/exact_test_not_strict: refused, as it must be (first at proofs/settled/Proof.antt:41:5; 9 s)
+rt: must-fail sqrt/zero_for_a_negative: refused, as it must be (first at proofs/nearest_root/Proof.antt:25:15; 10 s)
+rt: test_limits proved (15 s)
+rt: test_limits ran as nobody, and wrote what its file 'stdout' has (0 s)
+END
+gate_table() {
+  "${PYTHON:-python3}" harness/gate.py <"$work/gate.log"
+}
+prints gate_table <<END
+| Crate | Proof, s | Edits | One edit, s | Share |
+|---|---|---|---|---|
+| sqrt | 8 | 3 | 9 | 52.2 % |
+| lists | 9 | 1 | 8 | 25.4 % |
+| test_limits | 15 | 0 |  | 22.4 % |
+END
+echo "harness/gate.py: the table is as expected"
 
 echo "== the commands of README.md and docs/CALLS.md"
 env -u ONC_LIBRARY -u LIBRARY "${PYTHON:-python3}" bindings/snippets.py README.md docs/CALLS.md
