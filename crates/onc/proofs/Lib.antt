@@ -1,6 +1,7 @@
 -- Laws of a call; Demands.antt has the three demands, Certain.antt what is certain of every book.
 pub mod Calls
 pub mod Demands
+pub mod TwoNames
 pub mod Groupings
 pub mod Rounds
 pub mod Only

@@ -7,6 +7,7 @@ use mathlib.Core.List.{List, [], _∷_, _++_}
 use lib.ListN.{length, take, drop}
 use lib.Ieee.{Float, lt}
 use Rattle.lists.specs.Lists.{listed, numbers, cellAt}
+use Rattle.lists.specs.Sums.{zero64, one64}
 use Rattle.refusals.specs.Table.{none, wiped, wipedNumbers}
 use Rattle.distance.specs.Distance.{distAt}
 use Rattle.silhouette_areas.specs.Scoring.{scoresOf}
@@ -273,6 +274,13 @@ pub record Demand3 (book : List Float) (rows cols repeat : ℕ) (draws : List �
   pub reads : 2 ≤ rows → rows ≤ 256 → 1 ≤ repeat → DrawsRead book rows repeat draws (runOf book rows repeat draws)
   pub only : 2 ≤ rows → rows ≤ 256 → 1 ≤ repeat → (r : Run) → DrawsRead book rows repeat draws r → r ≡ runOf book rows repeat draws
 
+-- the program's example: two names without correlation, and their three draws
+abbrev pub twoNames : List Float
+twoNames = one64 ∷ zero64 ∷ zero64 ∷ one64 ∷ []
+
+abbrev pub exampleDraws : List ℕ
+exampleDraws = 0 ∷ 0 ∷ 4503599627370496 ∷ []
+
 -- the three demands, of every call
 pub record Demands : Type 0 where
   pub first : (book : List Float) (rows cols repeat : ℕ) (draws : List ℕ) (l : Lists)
@@ -281,3 +289,5 @@ pub record Demands : Type 0 where
   pub third : (book : List Float) (rows cols repeat : ℕ) (draws : List ℕ) (l : Lists) → Demand3 book rows cols repeat draws l
   -- the whole parts of logarithms that `SumOf` asks for, the bounds of e in them, and each round's count
   pub counts : CountClaim
+  -- the example has two groups, by its 3 draws: so not every book is turned back, nor is every book one group, whatever the parts of a round are
+  pub apart : (l : Lists) → Within twoNames 2 1 l → groupOf twoNames 2 2 1 exampleDraws l .answer ≡ record { refused = none; groups = 2; read = 3 }
