@@ -85,7 +85,7 @@ export ONC_LIBRARY=$shared
 echo "== the harness"
 rt staticlib harness_exports >&2
 exported=$(nm --defined-only target/staticlib/libharness_exports.a | awk '$2 == "T" && $3 ~ /^onc_/ { print $3 }' | sort)
-called=$(grep -o 'onc_[a-z_]*(' harness/exports.c | tr -d '(' | sort -u)
+called=$(sed -n '/^int main/,$p' harness/exports.c | sed 's/"[^"]*"//g' | grep -o 'onc_[a-z_]*(' | tr -d '(' | sort -u)
 [ "$called" = "$exported" ] || fail "harness/exports.c calls other functions than harness_exports has: $exported"
 compile harness/exports.c target/staticlib/libharness_exports.a -lm
 "$work/exports"

@@ -161,6 +161,8 @@ for document in ["README.md"] + [p for p in below("docs") if p != "docs/REVIEW.m
 rt = shutil.which("rt")
 library = os.path.join(os.path.dirname(os.path.dirname(os.path.realpath(rt))), "logic", "Lib") if rt else ""
 made = r"(?:(?:abbrev|unfoldable|opaque) )*pub (\S+) +:"
+if not os.path.isdir(library):
+    print("the kit's library was not found: its names were not looked up")
 theirs = {name for path in below(library) if path.endswith(".antt") for name in re.findall("^ *" + made, text(path), re.M)}
 for path in below("crates"):
     if "/specs/" in path:

@@ -1,5 +1,5 @@
 /* Calls every function of crates/harness_exports once or more, as its precondition asks, on the book of README.md: four names in two pairs, 0.875
-   within a pair and 0.125 across. What each gives is told by another way: by C, by the leaf that does the same work, or by the silhouettes that the
+   within a pair and 0.125 across. What each gives is compared with what C gives, the leaf that does the same work, or the silhouettes that the
    program prints. Ends with status 1, and the names of the checks that failed, where something differs. bindings/test.sh compiles and runs it. */
 #include <math.h>
 #include <stdint.h>

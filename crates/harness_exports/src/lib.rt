@@ -192,7 +192,7 @@ pub extern "C" fn onc_scores_in(
     silhouette_areas::scores_in(area, m, labels, k, scores);
 }
 
-// The t-statistic of at most 65,536 scores. Inner form: 4 is for its callers to ask.
+// The t-statistic of at most 65,536 scores. Inner form: 4 is asked by its callers.
 #[no_mangle]
 pub extern "C" fn onc_tstat_of(scores: &[f64]) -> f64
     requires { ⌜ length (now scores) ≤ mostValues ⌝ }

@@ -263,8 +263,9 @@ Tells (ended ClusteringFailed ms) a = ⊥
 -- Demand 3: how many draws a call reads. Where it ends in a grouping, no others matter (`Counted`); 7 gives the sum over the rounds that started; and each way in
 -- which a run ends is told by its number and place, and met as `EndsBy` says. The runs of calls have 2 to 256 names and one repeat or more. What `reads` says is true
 -- of no other run (`only`). It cites these parts of a round, which are read in their definitions: `distAt`, `bestOf`, `baseOf`, `qualitiesOf`, `weakCount`,
--- `weakMean`, `weakItems`, `rowsOf`, `mergedOf`, `rescored`, `meanQuality`. With these as they are, a run that takes a draw out of range, always keeps the base or
--- makes one group of every book does not meet it.
+-- `weakMean`, `weakItems`, `rowsOf`, `mergedOf`, `rescored`, `meanQuality`; `needOf` and `totalOf`, which `counts` says in other words; and for a draw out of range
+-- RoundOutOfRange, with the centres chosen before it (`firstCentres`). With these as they are, a definition whose runs take a draw out of range, always keep the
+-- base or make one group of every book does not meet it.
 pub record Demand3 (book : List Float) (rows cols repeat : ℕ) (draws : List ℕ) (l : Lists) : Type 0 where
   pub grouped : groupOf book rows cols repeat draws l .answer .refused .number ≡ 0
       → Counted book rows cols repeat draws l (groupOf book rows cols repeat draws l .answer .read)
@@ -289,5 +290,5 @@ pub record Demands : Type 0 where
   pub third : (book : List Float) (rows cols repeat : ℕ) (draws : List ℕ) (l : Lists) → Demand3 book rows cols repeat draws l
   -- the whole parts of logarithms that `SumOf` asks for, the bounds of e in them, and each round's count
   pub counts : CountClaim
-  -- the example has two groups, by its 3 draws: so not every book is turned back, nor is every book one group, whatever the parts of a round are
+  -- the example has two groups, and 3 draws are read: so neither is every book turned back nor is each one group, which needs no reading of those parts
   pub apart : (l : Lists) → Within twoNames 2 1 l → groupOf twoNames 2 2 1 exampleDraws l .answer ≡ record { refused = none; groups = 2; read = 3 }

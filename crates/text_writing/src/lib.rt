@@ -4,7 +4,7 @@ ghost use Prim.Native.Nat.{_+_, _<_, _≤_};
 ghost use mathlib.Core.List.{_++_, _∷_, []};
 ghost use lib.ListN.{length};
 ghost use lib.Seq.{sets};
-ghost use Rattle.text_digits.specs.Digits.{digitsOf as digitsOf, placesTo, widthOf, numeral, stopOf};
+ghost use Rattle.text_digits.specs.Digits.{digitsOf, placesTo, widthOf, numeral, stopOf};
 ghost use Rattle.text_writing.specs.Stores.{Wrote};
 
 // How many decimal digits a number takes.
