@@ -42,7 +42,7 @@ compile() {
 compile bindings/c/example.c "$archive"
 prints "$work/example" <<END
 names 4 groups 2 draws 10
-1 1 0 0
+0 0 1 1
 3fe5badbd0cf64da 3fe5badbd0cf64da 3fe5badbd0cf64da 3fe5badbd0cf64da
 END
 compile bindings/c/test.c "$archive"
@@ -61,8 +61,8 @@ export ONC_LIBRARY=$archive
 cargo test -q
 prints cargo run -q --example grouping <<END
 names 4 groups 2 draws 10
-group 0: C 0.679, D 0.679
-group 1: A 0.679, B 0.679
+group 0: A 0.679, B 0.679
+group 1: C 0.679, D 0.679
 END
 prints cargo run -q --example statistics <<END
 mean Some(5.0)

@@ -4,7 +4,7 @@
 docs/REVIEW.md: each file is there and defines the names that stand behind it, each contract and edit is there, each kind of case, and each sentence
 that is quoted. docs/READING.md: both ways, each crate stands in the map with its line of crates.txt and each file of definitions in the reading order,
 and each crate, file and name on the page is there. What a line of its picture joins is a call. README.md and the other documents: their paths are there, and
-each name in backticks stands in a source, outside its comments. Definitions: where the kit is at hand, none has a name that the kit's library has.
+each name in backticks stands in a source, outside its comments; docs/src/rand, which is rand's, is not looked at. Definitions: where the kit is at hand, none has a name that the kit's library has.
 
     python3 harness/documents.py
 """
@@ -42,7 +42,7 @@ def defined(path, name):
     """Whether a file of definitions or a source defines a name, as a function, a type, a case, a field or a parameter; another file has it."""
     plain, name = name, re.escape(name)
     if path.endswith(".antt"):
-        return re.search(rf"^(?:  )?(?:(?:pub|abbrev|unfoldable|opaque) )*{name} :|^(?:pub )?(?:record|data) {name}\b", text(path), re.M) is not None
+        return re.search(rf"^(?:  ){{0,2}}(?:(?:pub|abbrev|unfoldable|opaque) )*{name} :|^(?:pub )?(?:record|data) {name}\b", text(path), re.M) is not None
     if path.endswith(".rt"):
         enums = "".join(re.findall(r"^pub enum \w+ \{\n.*?^\}", text(path), re.M | re.S))
         return bool(re.search(rf"\b(?:fn|struct|enum|const) {name}\b|(?<![\w.]){name}: ", text(path)) or re.search(rf"^    {name}\b", enums, re.M))
@@ -139,7 +139,7 @@ for folder in ("crates", "bindings", "harness", "include"):
         if not path.endswith(("stdin", "stdout", ".so", ".a")):
             code = re.sub(r"^ *(?://|--|# ).*", "", text(path), flags=re.M)
             words.update(re.findall(r"[\w-]+", code), re.findall(r"\w+", code), [os.path.basename(path).split(".")[0]])
-for document in ["README.md"] + [p for p in below("docs") if p != "docs/REVIEW.md"]:
+for document in ["README.md"] + [p for p in below("docs") if p != "docs/REVIEW.md" and not p.startswith("docs/src/rand/")]:
     for number, line in enumerate(text(document).splitlines(), 1):
         where = f"{document}:{number}"
         for path in re.findall(r"(?<![\w/.<-])(?:crates|harness|docs|bindings|include)/[\w/.+-]*\w", line):

@@ -1,7 +1,7 @@
 /*
- * The ONC grouping, the statistics, the check of a book in whole millionths and the draws of a round: what the crates `exports` (the grouping)
- * and `exports_statistics` (the others) have for C and C++. `bash bindings/build.sh` makes target/lib/libonc.a of their two static libraries.
- * The src/lib.rt of each has the contracts of its functions; all are proved.
+ * The ONC grouping by a seed or with draws of the caller's own, the statistics, the check of a book in whole millionths and the draws of a round: what
+ * the crates `exports` (the grouping) and `exports_statistics` (the others) have for C and C++. `bash bindings/build.sh` makes target/lib/libonc.a of their
+ * two static libraries. The src/lib.rt of each has the contracts of its functions; all are proved.
  *
  * For every call:
  * - It may be called with any values: what is wrong is refused by a number (onc_number below).
@@ -35,6 +35,9 @@ typedef char onc_size_t_has_64_bits[sizeof(size_t) == 8 ? 1 : -1];
 #define ONC_MOST_VALUES 65536
 #define ONC_MILLION 1000000
 
+/* The seed of onc_get_onc_clusters. */
+#define ONC_DEFAULT_SEED 42
+
 /* Lengths of lists: `answer` of the grouping, of a statistic and of the check of a book, and `average`. */
 #define ONC_ANSWER_LENGTH 4
 #define ONC_AVERAGE_ANSWER_LENGTH 2
@@ -50,8 +53,10 @@ typedef char onc_size_t_has_64_bits[sizeof(size_t) == 8 ? 1 : -1];
 #define ONC_SHARE_LIMIT (UINT64_C(1) << 53)
 
 /*
- * The numbers, in the order in which they are asked; the place of each is 0 unless one is named. 9, 7 and 8 come as the run meets them; 3 is never returned.
- * No call below gives 11, 29, 10 or 30: 11 is for texts, 29 and 10 for calls below the grouping, and 30 is kept for calls that are handed a grouping.
+ * The numbers, in the order in which they are asked; the place of each is 0 unless one is named. 9, 7 and 8 come as the run meets them, 7 and 8 only with
+ * draws of the caller's own; 3 is never returned. No call below gives 11, 29, 10 or 30: 11 is for texts, 29 and 10 for calls below the grouping, and 30 is
+ * kept for calls that are handed a grouping. 31, an index draw that is tried 128 times, is never returned either and has no name here: the generator's rule
+ * takes at most two words for an index.
  */
 enum onc_number {
     ONC_DONE = 0,                       /* not refused */
@@ -74,15 +79,11 @@ enum onc_number {
 };
 
 /*
- * The groups of the n = rows = cols names of a book, with the random draws from a list.
+ * The groups of the n = rows = cols names of a book, by a seed: the random draws are those of rand 0.10's StdRng, seeded by seed_from_u64(seed).
  *
  *   book      read; n * n cells of a correlation matrix, row by row
  *   repeat    1 to 64
- *   draws     read from the front; 32 * repeat * onc_draws_for(n) are always enough. A round of m names reads, for each repeat and each number of groups
- *             k from 2 to max(m - 1, 2), first an index, below m, then shares, below ONC_SHARE_LIMIT, some for each of k - 1 further centres; indexes
- *             in their place where the names' least squared distances to a centre do not sum to more than 0. Zeros are in range everywhere and are
- *             for trying out. Random numbers below n everywhere give poor groupings: as shares they are close to 0. docs/CALLS.md says how
- *             proper draws are made.
+ *   seed      any number; the same seed gives the same grouping
  *   order     n row numbers
  *   sizes     n numbers
  *   scores    n doubles
@@ -96,12 +97,47 @@ enum onc_number {
  *   0           order: the row numbers of group 0, then of group 1, and so on, each name once. sizes: the size of each group, none 0, then zeros.
  *               scores: the silhouette of each name, by row number, from -1 to 1 whatever the book holds. ordered: the book with rows and columns in that order.
  *               answer: 0, 0, the groups, the draws read.
- *   9, 7, 8     order, sizes, scores and ordered as they were. answer: the number, its place, 0, 0.
+ *   9           order, sizes, scores and ordered as they were. answer: 9, 0, 0, 0.
  *   1, 2, 4, 5, 6  every list as it was. answer, which is what is returned and no output: the number, 0, 0, 0. An answer whose length is not 4 is as it
  *               was too, and the number is 1, 2, 4, 5 or 6 in that order.
  *
- * After 0, 9, 7 and 8 the first 8 * n * n + 256 * n doubles of `floats` and the first 320 * n numbers of `numbers` are zero, and what lies
- * behind them is as it was.
+ * After 0 and 9 the first 8 * n * n + 256 * n doubles of `floats` and the first 320 * n numbers of `numbers` are zero, and what lies behind them is as
+ * it was.
+ */
+size_t onc_get_onc_clusters_with_seed(
+    const double *book, size_t book_length,
+    size_t rows, size_t cols, size_t repeat,
+    uint64_t seed,
+    size_t *order, size_t order_length,
+    size_t *sizes, size_t sizes_length,
+    double *scores, size_t scores_length,
+    double *ordered, size_t ordered_length,
+    double *floats, size_t floats_length,
+    size_t *numbers, size_t numbers_length,
+    size_t *answer, size_t answer_length);
+
+/* The same by the seed ONC_DEFAULT_SEED. */
+size_t onc_get_onc_clusters(
+    const double *book, size_t book_length,
+    size_t rows, size_t cols, size_t repeat,
+    size_t *order, size_t order_length,
+    size_t *sizes, size_t sizes_length,
+    double *scores, size_t scores_length,
+    double *ordered, size_t ordered_length,
+    double *floats, size_t floats_length,
+    size_t *numbers, size_t numbers_length,
+    size_t *answer, size_t answer_length);
+
+/*
+ * The same with the random draws from a list of the caller's own in place of a seed.
+ *
+ *   draws     read from the front; 32 * repeat * onc_draws_for(n) are always enough. A round of m names reads, for each repeat and each number of groups
+ *             k from 2 to max(m - 1, 2), first an index, below m, then shares, below ONC_SHARE_LIMIT, some for each of k - 1 further centres; indexes
+ *             in their place where the names' least squared distances to a centre do not sum to more than 0. Zeros are in range everywhere and are
+ *             for trying out. Random numbers below n everywhere give poor groupings: as shares they are close to 0. docs/CALLS.md says how
+ *             proper draws are made.
+ *
+ * Beside the numbers above it returns 7 and 8. Afterwards all is as after 9, and answer has the number, its place, 0, 0.
  */
 size_t onc_get_onc_clusters_with_draws(
     const double *book, size_t book_length,

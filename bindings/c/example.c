@@ -1,4 +1,4 @@
-/* Groups four names in two pairs, 0.875 within a pair and 0.125 across, and prints what the program `grouping` prints.
+/* Groups four names in two pairs, 0.875 within a pair and 0.125 across, by the seed 42, and prints it in the layout of the program `grouping`.
    After `bash bindings/build.sh`, from the repository's root:
    cc -std=c99 -Wall -Wextra -Werror -Iinclude -o target/example bindings/c/example.c target/lib/libonc.a */
 #include <inttypes.h>
@@ -8,7 +8,6 @@
 #include "onc.h"
 
 #define N 4
-#define DRAWS 10
 
 int main(void) {
     const double book[N * N] = {
@@ -17,14 +16,12 @@ int main(void) {
         0.125, 0.125, 1.0,   0.875,
         0.125, 0.125, 0.875, 1.0,
     };
-    /* zeros are for trying out: onc.h says which draw is an index and which a share */
-    const uint64_t draws[DRAWS] = {0};
     size_t order[N], sizes[N], labels[N], answer[ONC_ANSWER_LENGTH];
     double scores[N], ordered[N * N];
     static double floats[ONC_FLOATS(N)];
     static size_t numbers[ONC_NUMBERS(N)];
-    size_t number = onc_get_onc_clusters_with_draws(book, N * N, N, N, 1, draws, DRAWS, order, N, sizes, N, scores, N, ordered, N * N, floats,
-                                                    ONC_FLOATS(N), numbers, ONC_NUMBERS(N), answer, ONC_ANSWER_LENGTH);
+    size_t number = onc_get_onc_clusters_with_seed(book, N * N, N, N, 1, 42, order, N, sizes, N, scores, N, ordered, N * N, floats,
+                                                   ONC_FLOATS(N), numbers, ONC_NUMBERS(N), answer, ONC_ANSWER_LENGTH);
     if (number != ONC_DONE) {
         printf("refused %zu at %zu\n", number, answer[1]);
         return 1;

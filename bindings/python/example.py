@@ -1,4 +1,4 @@
-"""Groups four names in two pairs, 0.875 within a pair and 0.125 across; then averages and the check of a book in millionths."""
+"""Groups four names in two pairs, 0.875 within a pair and 0.125 across, by the seed 42; then averages and the check of a book in millionths."""
 
 import onc
 
@@ -8,14 +8,13 @@ book = [
     [0.125, 0.125, 1.0, 0.875],
     [0.125, 0.125, 0.875, 1.0],
 ]
-# zeros are for trying out: random_draws.py makes proper draws
-grouping = onc.group(book, draws=[0] * onc.draws_for(4), names=["A", "B", "C", "D"])
+grouping = onc.group(book, seed=42, names=["A", "B", "C", "D"])
 print("names {} groups {} draws {}".format(len(grouping.order), len(grouping.groups), grouping.draws_read))
 for number, members in enumerate(grouping.groups):
     print("group {}: {}".format(number, ", ".join("{} {:.3f}".format(name, grouping.scores[name]) for name in members)))
 
 try:
-    onc.group(book, draws=[0] * 9)
+    onc.group(book, repeat=0)
 except onc.Refusal as refusal:
     print(refusal)
 

@@ -1,8 +1,8 @@
 """openquant's ONC grouping, proved in Rattle, for Python 3.8 and later.
 
-group(book, draws) groups the names of a correlation matrix; mean, variance and std_dev are the averages below it; check_book checks a book in whole
-millionths; draws_for and draws_enough count draws. Bad input raises Refusal or Improper, with the numbers of the library's table, or a ValueError
-or TypeError where Python's own types are at fault.
+group(book, seed) groups the names of a correlation matrix by a seed, group_with_draws(book, draws) with draws of the caller's own, which draws_for and
+draws_enough count; mean, variance and std_dev are the averages below it; check_book checks a book in whole millionths. Bad input raises Refusal or
+Improper, with the numbers of the library's table, or a ValueError or TypeError where Python's own types are at fault.
 
 ONC_LIBRARY names the shared object; else it is target/lib/libonc.so of the repository, which bindings/build.sh writes.
 """
@@ -17,8 +17,11 @@ from collections.abc import Mapping, Sequence, Set
 from dataclasses import dataclass
 from typing import Any, Dict, List, Optional, Tuple
 
-__all__ = ["group", "Grouping", "Refusal", "Improper", "mean", "variance", "std_dev", "check_book", "draws_for", "draws_enough"]
+__all__ = [
+    "group", "group_with_draws", "DEFAULT_SEED", "Grouping", "Refusal", "Improper", "mean", "variance", "std_dev", "check_book", "draws_for", "draws_enough",
+]  # fmt: skip
 
+DEFAULT_SEED = 42
 _MOST_NAMES = 256
 _MOST_REPEATS = 64
 _ROUNDS = 32
@@ -31,7 +34,7 @@ _CAUSES = {
     4: ("TooLarge", "over 256 rows, over 64 repeats, or an average of over 65,536 values"),
     5: ("CellCount", "the cells are not rows times rows"),
     6: ("ListLength", "a list has the wrong length"),
-    7: ("TooFewDraws", "too few draws, after {} were read"),
+    7: ("TooFewDraws", "too few draws, after {} were read"),  # 7 and 8 only with draws of the caller's own
     8: ("DrawOutOfRange", "the draw at {} is out of range"),
     9: ("TooManyRounds", "a 33rd round would start"),
     10: ("OutOfRange", "the label, centre or row number at {} is out of range"),
@@ -93,7 +96,7 @@ class Grouping:
     ordered: List[List[float]]
     """the matrix by rows, its rows and columns in the order of `order`"""
     draws_read: int
-    """how many draws were read, from the front of the list"""
+    """how many draws were read, of the seed's generator or from the front of the list"""
 
 
 _doubles_in = ctypes.POINTER(ctypes.c_double)
@@ -112,12 +115,10 @@ def _library() -> ctypes.CDLL:
     library = ctypes.CDLL(path)
     size = ctypes.c_size_t
     doubles, draws, cells, sizes = [_doubles_in, size], [_draws_in, size], [_cells_in, size], [_sizes_in, size]
+    lent = sizes + sizes + doubles + doubles + doubles + sizes + sizes
     for name, arguments, result in [
-        (
-            "onc_get_onc_clusters_with_draws",
-            doubles + [size, size, size] + draws + sizes + sizes + doubles + doubles + doubles + sizes + sizes,
-            size,
-        ),
+        ("onc_get_onc_clusters_with_seed", doubles + [size, size, size] + [ctypes.c_uint64] + lent, size),
+        ("onc_get_onc_clusters_with_draws", doubles + [size, size, size] + draws + lent, size),
         ("onc_mean", doubles + doubles + sizes, size),
         ("onc_variance", doubles + [size] + doubles + sizes, size),
         ("onc_std_dev", doubles + [size] + doubles + sizes, size),
@@ -197,12 +198,13 @@ _WHOLES = ("hHiIlLqQ", operator.index)
 
 
 def _size(value, what: str) -> int:
+    """A whole number of 64 bits, as sizes and seeds are."""
     try:
         whole = operator.index(value)
     except TypeError:
         raise TypeError("{} is {}, not a whole number".format(what, type(value).__name__)) from None
-    if not 0 <= whole < 2 ** (8 * ctypes.sizeof(ctypes.c_size_t)):
-        raise ValueError("{} is below 0 or too large".format(what))
+    if not 0 <= whole < 2**64:
+        raise ValueError("{} is below 0 or not below 2**64".format(what))
     return whole
 
 
@@ -258,19 +260,33 @@ def _names(names, count: int) -> List[Any]:
     return listed
 
 
-def group(book, draws, repeat: int = 1, names=None) -> Grouping:
+def group(book, seed: int = DEFAULT_SEED, repeat: int = 1, names=None) -> Grouping:
     """Groups the names of a book by ONC: k-means for every number of groups, the best silhouette t-stat, weak groups clustered again.
 
     book: a correlation matrix of 2 to 256 names, as a list of rows, or as a buffer of doubles or floats with one dimension (row by row) or two.
     NaN and infinite cells are taken. A buffer of integers is refused by a TypeError: it may be a book in millionths.
+    seed: 0 to 2**64 - 1. The random draws are those of Rust's StdRng (rand 0.10), seeded by seed_from_u64; the same seed gives the same grouping.
+    repeat: 1 to 64. names: one for each row, each once; without them the names are 0, 1, ..
+    """
+    return _grouping("onc_get_onc_clusters_with_seed", book, repeat, [_size(seed, "seed")], names)
+
+
+def group_with_draws(book, draws, repeat: int = 1, names=None) -> Grouping:
+    """As group, with draws of the caller's own in place of a seed.
+
     draws: the random draws as a list or a buffer of whole numbers. For each repeat and each number of groups of a round the first is an index, below
     the number of the round's names; those behind it are shares, below 2**53 and meaning themselves over 2**53 (indexes again where the names' least
     squared distances to a centre do not sum to more than 0). draws_enough says how many are always enough. Zeros, in range everywhere, are for trying
     out; random numbers below the number of names everywhere give poor groupings. random_draws.py beside this file makes proper ones.
-    repeat: 1 to 64. names: one for each row, each once; without them the names are 0, 1, ..
     """
+    draws = _draws(draws)
+    return _grouping("onc_get_onc_clusters_with_draws", book, repeat, [_array(ctypes.c_uint64, draws), len(draws)], names)
+
+
+def _grouping(function: str, book, repeat: int, source: Sequence, names) -> Grouping:
+    """The grouping that this function of the library answers; source is the seed, or the draws and how many they are."""
     rows, cols, cells = _matrix(book, *_DOUBLES)
-    repeat, draws = _size(repeat, "repeat"), _draws(draws)
+    repeat = _size(repeat, "repeat")
     # Without cells the library refuses the call before it asks for lists.
     n = rows if cells else 0
     names = _names(names, n) if cells else []
@@ -279,8 +295,8 @@ def group(book, draws, repeat: int = 1, names=None) -> Grouping:
     floats_length, numbers_length = 8 * n * n + 256 * n, 320 * n
     floats, numbers = _room(ctypes.c_double, floats_length), _room(ctypes.c_size_t, numbers_length)
     answer = _room(ctypes.c_size_t, 4)
-    number = _library().onc_get_onc_clusters_with_draws(
-        _array(ctypes.c_double, cells), len(cells), rows, cols, repeat, _array(ctypes.c_uint64, draws), len(draws),
+    number = getattr(_library(), function)(
+        _array(ctypes.c_double, cells), len(cells), rows, cols, repeat, *source,
         order, n, sizes, n, scores, n, ordered, n * n, floats, floats_length, numbers, numbers_length, answer, 4,
     )  # fmt: skip
     if number != 0:

@@ -1,4 +1,4 @@
-"""Groups a book with random draws, and shows why they are made so.
+"""Groups a book with draws of any random source, and shows why they are made so. Without such a source, onc.group by a seed is enough.
 
 A draw is an index, below the names of its round, or a share, below 2**53. Where the indexes of the first round stand is known beforehand. How many names a later
 round has shows during a run, and so does where indexes stand for shares: there a refusal by 8 names the place of a share that is read as an index, and a refusal by
@@ -30,7 +30,7 @@ def group(book, rng, repeat=1, names=None):
     draws = first_round(n, repeat, rng) if onc.draws_for(n, repeat) else []
     while True:
         try:
-            return onc.group(book, draws, repeat, names)
+            return onc.group_with_draws(book, draws, repeat, names)
         except onc.Refusal as refusal:
             if refusal.number == 7:
                 draws += [rng.randrange(2**53) for _ in range(onc.draws_for(n, repeat))]
@@ -58,8 +58,8 @@ def main():
 
     enough = onc.draws_enough(n)
     print("indexes and shares: {} of 100".format(times(lambda rng: group(book, rng))))
-    print("numbers below {}: {} of 100".format(n, times(lambda rng: onc.group(book, [rng.randrange(n) for _ in range(enough)]))))
-    print("zeros: {}".format("found" if found(lambda: onc.group(book, [0] * enough)) else "not found"))
+    print("numbers below {}: {} of 100".format(n, times(lambda rng: onc.group_with_draws(book, [rng.randrange(n) for _ in range(enough)]))))
+    print("zeros: {}".format("found" if found(lambda: onc.group_with_draws(book, [0] * enough)) else "not found"))
 
 
 if __name__ == "__main__":

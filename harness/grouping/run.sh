@@ -1,14 +1,17 @@
 #!/usr/bin/env bash
-# Compares the proved library with the unchanged Rust: whole runs; the statistics, the intake check and the counts of draws. Runs it on a
-# small stack; times both sides; counts their instructions; records runs of the Rust; compares the cases of `test_examples` with the Rust; and
-# compares what the grouping program prints.
+# Compares the proved library with the unchanged Rust: whole runs, with draws and by a seed; the statistics, the intake check and the counts of
+# draws. Runs it on a small stack; times both sides (`time-seeds` alone the runs by a seed, which `time` has last); counts their instructions;
+# records runs of the Rust; compares the cases of `test_examples` with the Rust; and compares what the grouping program prints.
 #   SOURCES=dir bash harness/grouping/run.sh runs [SEED] [BOOKS]
 #   SOURCES=dir bash harness/grouping/run.sh statistics [SEED] [CALLS]
 #   SOURCES=dir bash harness/grouping/run.sh stack [KIB]
 #   SOURCES=dir bash harness/grouping/run.sh time [RUNS]
+#   SOURCES=dir bash harness/grouping/run.sh time-seeds [RUNS]
 #   SOURCES=dir bash harness/grouping/run.sh count [NAMES]
 #   SOURCES=dir bash harness/grouping/run.sh record > crates/test_runs/stdin
 #   SOURCES=dir bash harness/grouping/run.sh record-kinds > crates/test_runs/kinds.txt
+#   SOURCES=dir bash harness/grouping/run.sh record-seeds > crates/test_seeds/stdin
+#   SOURCES=dir bash harness/grouping/run.sh record-seed-kinds > crates/test_seeds/kinds.txt
 #   SOURCES=dir bash harness/grouping/run.sh vectors
 #   SOURCES=dir bash harness/grouping/run.sh texts [SEED] [TEXTS]
 #   SOURCES=dir bash harness/grouping/run.sh record-texts > crates/test_texts/stdin
@@ -17,7 +20,7 @@
 # `exports_statistics` and `harness_exports`; PROGRAM the grouping program to run instead of the one that `rt check grouping` writes. `count`
 # takes valgrind.
 set -euo pipefail
-case ${1:-} in runs | statistics | stack | time | count | record | record-kinds | vectors | texts | record-texts) ;; *) sed -n '2,18s/^# //p' "$0" && exit 2 ;; esac
+case ${1:-} in runs | statistics | stack | time | time-seeds | count | record | record-kinds | record-seeds | record-seed-kinds | vectors | texts | record-texts) ;; *) sed -n '2,21s/^# //p' "$0" && exit 2 ;; esac
 cd "$(dirname "${BASH_SOURCE[0]}")/../.."
 work=${WORK:-target/harness}
 mkdir -p "$work"
@@ -30,7 +33,7 @@ build() {
   (cd "$work/oracle" && cargo build -q --release --manifest-path "$work/grouping/Cargo.toml" --bin "$1" >&2)
 }
 case $1 in
-  record | record-kinds)
+  record | record-kinds | record-seeds | record-seed-kinds)
     build record
     exec "$work/build/release/record" ${1#record-}
     ;;

@@ -1,6 +1,9 @@
 use crate::raw;
 use crate::refusal::{answered, Refusal};
 
+/// The seed of [`get_onc_clusters`].
+pub const DEFAULT_SEED: u64 = 42;
+
 /// The most names of a book.
 const MOST: usize = 256;
 
@@ -72,7 +75,7 @@ impl Grouping {
         &self.ordered
     }
 
-    /// How many draws were read. They are the first ones of the list, and no others have a part in the answer.
+    /// How many draws were read: of the generator by a seed, else from the front of the list, and no others have a part in the answer.
     pub fn draws_read(&self) -> usize {
         self.draws_read
     }
@@ -93,8 +96,23 @@ impl Grouper {
         Grouper::default()
     }
 
+    /// As the function [`get_onc_clusters`](crate::get_onc_clusters), with this grouper's working lists.
+    pub fn get_onc_clusters(&mut self, book: &[f64], rows: usize, cols: usize, repeat: usize) -> Result<Grouping, Refusal> {
+        self.grouped(book, rows, |lent| raw::get_onc_clusters(book, rows, cols, repeat, lent))
+    }
+
+    /// As the function [`get_onc_clusters_with_seed`](crate::get_onc_clusters_with_seed), with this grouper's working lists.
+    pub fn get_onc_clusters_with_seed(&mut self, book: &[f64], rows: usize, cols: usize, repeat: usize, seed: u64) -> Result<Grouping, Refusal> {
+        self.grouped(book, rows, |lent| raw::get_onc_clusters_with_seed(book, rows, cols, repeat, seed, lent))
+    }
+
     /// As the function [`get_onc_clusters_with_draws`](crate::get_onc_clusters_with_draws), with this grouper's working lists.
     pub fn get_onc_clusters_with_draws(&mut self, book: &[f64], rows: usize, cols: usize, repeat: usize, draws: &[u64]) -> Result<Grouping, Refusal> {
+        self.grouped(book, rows, |lent| raw::get_onc_clusters_with_draws(book, rows, cols, repeat, draws, lent))
+    }
+
+    /// What a call answers that is lent lists for the rows of this book.
+    fn grouped(&mut self, book: &[f64], rows: usize, call: impl FnOnce(raw::Lent) -> usize) -> Result<Grouping, Refusal> {
         // Lists are made for a book of its length alone. The library refuses all others by 1, 2, 4 or 5 before it asks for the lists.
         let names = if rows <= MOST && book.len() == rows * rows { rows } else { 0 };
         let (floats, numbers) = working(names);
@@ -121,7 +139,7 @@ impl Grouper {
             numbers: &mut self.numbers,
             answer: &mut answer,
         };
-        let number = raw::get_onc_clusters_with_draws(book, rows, cols, repeat, draws, lent);
+        let number = call(lent);
         let [_, place, groups, draws_read] = answer;
         answered(number, place)?;
         found.sizes.truncate(groups);
@@ -130,17 +148,46 @@ impl Grouper {
     }
 }
 
+/// As [`get_onc_clusters_with_seed`] with [`DEFAULT_SEED`].
+pub fn get_onc_clusters(book: &[f64], rows: usize, cols: usize, repeat: usize) -> Result<Grouping, Refusal> {
+    Grouper::new().get_onc_clusters(book, rows, cols, repeat)
+}
+
 /// Groups the names of a book by ONC: k-means for every number of groups, the best silhouette t-stat, weak groups clustered again.
 ///
-/// The book is a correlation matrix of 2 to 256 names, row by row; NaN and infinite cells are taken. `repeat` is 1 to 64.
+/// The book is a correlation matrix of 2 to 256 names, row by row; NaN and infinite cells are taken. `repeat` is 1 to 64. The random draws are those of
+/// rand 0.10's `StdRng`, seeded by `seed_from_u64`; no seed is refused, and the same seed gives the same grouping.
 ///
-/// The random draws come in as a list. For each repeat and each number of groups of a round the first is an index, below the number of the round's names;
+/// Refusals: 1, 2, 4, 5; 9 as the run meets it.
+///
+/// ```
+/// let book = [
+///     1.0, 0.875, 0.125, 0.125, //
+///     0.875, 1.0, 0.125, 0.125, //
+///     0.125, 0.125, 1.0, 0.875, //
+///     0.125, 0.125, 0.875, 1.0,
+/// ];
+/// let grouping = onc::get_onc_clusters_with_seed(&book, 4, 4, 1, 42)?;
+/// assert_eq!(grouping.labels(), [0, 0, 1, 1]);
+/// assert!(grouping.groups().eq([[0, 1], [2, 3]]));
+/// assert_eq!(onc::get_onc_clusters(&book, 4, 4, 1), Ok(grouping));
+///
+/// assert_eq!(onc::get_onc_clusters_with_seed(&book, 4, 4, 0, 42), Err(onc::Refusal::InvalidRepeat));
+/// # Ok::<(), onc::Refusal>(())
+/// ```
+pub fn get_onc_clusters_with_seed(book: &[f64], rows: usize, cols: usize, repeat: usize, seed: u64) -> Result<Grouping, Refusal> {
+    Grouper::new().get_onc_clusters_with_seed(book, rows, cols, repeat, seed)
+}
+
+/// As [`get_onc_clusters_with_seed`], with the random draws from a list of the caller's own in place of a seed.
+///
+/// For each repeat and each number of groups of a round the first is an index, below the number of the round's names;
 /// those behind it are shares, below 2^53 and meaning themselves over 2^53 (indexes again where the names' least squared distances to a centre do not sum to
 /// more than 0). [`draws_enough`](crate::draws_enough) says how many are always enough. Zeros, in range everywhere, are for trying out. Random numbers below the
 /// number of names everywhere give poor groupings: as shares they are close to 0. Proper ones start as random shares; a refusal by 8 names the place of a draw
 /// that is read as an index, and one by 7 says that another round starts, which reads no more than the first.
 ///
-/// Refusals: 1, 2, 4, 5; 9, 7 and 8 as the run meets them.
+/// Refusals: those by a seed; 7 and 8 as the run meets them.
 ///
 /// ```
 /// let book = [

@@ -18,12 +18,12 @@ pub enum Refusal {
     CellCount,
     /// 6: a list of wrong length was lent.
     ListLength,
-    /// 7: fewer draws remain than a round needs.
+    /// 7: fewer draws of the caller's own remain than a round needs. Not by a seed.
     TooFewDraws {
         /// The draws read so far.
         read: usize,
     },
-    /// 8: a draw is out of range.
+    /// 8: a draw of the caller's own is out of range. Not by a seed.
     DrawOutOfRange {
         /// Its place in the list of draws, from 0.
         place: usize,

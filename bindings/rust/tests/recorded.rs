@@ -1,5 +1,6 @@
-//! The recorded runs of crates/test_runs: every call but those that lend lists of wrong length, which this crate cannot make.
-use onc::Grouper;
+//! The recorded runs of crates/test_runs and, by a seed, of crates/test_seeds: every call but those that lend lists of wrong length, which this crate
+//! cannot make.
+use onc::{Grouper, Grouping, Refusal};
 
 /// The words of the text, read one after the other. The layout stands in harness/grouping/src/bin/record.rs.
 struct Words(std::vec::IntoIter<u64>);
@@ -25,12 +26,11 @@ fn bits(x: f64) -> u64 {
     }
 }
 
-#[test]
-fn recorded_runs() {
-    let text = std::fs::read_to_string(concat!(env!("CARGO_MANIFEST_DIR"), "/../../crates/test_runs/stdin")).unwrap();
+/// Calls every case of a crate by `call`, with its book, rows, cols, repeat and draws. How many groupings, refusals and calls with lists of wrong length there are.
+fn recorded(folder: &str, mut call: impl FnMut(&[f64], usize, usize, usize, &[u64]) -> Result<Grouping, Refusal>) -> (usize, usize, usize) {
+    let text = std::fs::read_to_string(format!("{}/../../crates/{folder}/stdin", env!("CARGO_MANIFEST_DIR"))).unwrap();
     let all: Vec<u64> = text.split_whitespace().map(|w| u64::from_str_radix(w, 16).unwrap()).collect();
     let mut words = Words(all.into_iter());
-    let mut grouper = Grouper::new();
     let (mut groupings, mut refusals, mut lengths) = (0, 0, 0);
     while !words.0.as_slice().is_empty() {
         let head = sizes(&words.list(12));
@@ -44,7 +44,7 @@ fn recorded_runs() {
             continue;
         }
         let case = groupings + refusals + lengths;
-        match grouper.get_onc_clusters_with_draws(&book, rows, cols, repeat, &draws) {
+        match call(&book, rows, cols, repeat, &draws) {
             Ok(found) => {
                 assert_eq!(told, [0, 0, found.len(), found.draws_read()], "case {case}");
                 assert_eq!(sizes(&outputs[0]), found.order(), "case {case}");
@@ -62,8 +62,33 @@ fn recorded_runs() {
             }
         }
     }
+    (groupings, refusals, lengths)
+}
+
+#[test]
+fn recorded_runs() {
+    let mut grouper = Grouper::new();
+    let counts = recorded("test_runs", |book, rows, cols, repeat, draws| {
+        grouper.get_onc_clusters_with_draws(book, rows, cols, repeat, draws)
+    });
+    assert!(counts.0 > 200 && counts.1 > 50 && counts.2 > 0, "{counts:?}");
+}
+
+#[test]
+fn recorded_runs_by_a_seed() {
+    let mut grouper = Grouper::new();
+    let mut by_default = 0;
+    // one word in place of the draws is the seed; without it the call is the one that names none
+    let counts = recorded("test_seeds", |book, rows, cols, repeat, draws| match draws {
+        [] => {
+            by_default += 1;
+            grouper.get_onc_clusters(book, rows, cols, repeat)
+        }
+        &[seed] => grouper.get_onc_clusters_with_seed(book, rows, cols, repeat, seed),
+        _ => panic!("a case has several seeds"),
+    });
     assert!(
-        groupings > 200 && refusals > 50 && lengths > 0,
-        "{groupings} groupings, {refusals} refusals, {lengths} lengths"
+        counts.0 > 100 && counts.1 > 5 && counts.2 > 0 && by_default > 5,
+        "{counts:?}, {by_default} by default"
     );
 }

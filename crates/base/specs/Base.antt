@@ -8,6 +8,7 @@ use lib.Ieee.{Float}
 use Rattle.lists.specs.Lists.{numbers}
 use Rattle.draws.specs.Draws.{Drawn, drawn, refused}
 use Rattle.draws.specs.declared.Stop.the-variants.{DrawOutOfRange, ClusteringFailed}
+use Rattle.plusplus_seeded.specs.declared.Source.{Source}
 use Rattle.partition.specs.Partition.{groupsOf, joined, State}
 use Rattle.partition.specs.Orders.{sizesOf}
 use Rattle.candidates.specs.Candidates.{Candidate, Best, nothing, found}
@@ -18,9 +19,9 @@ use Rattle.base.specs.declared.Based.the-variants.{Done, Stopped}
 abbrev pub baseOf : ℕ → Candidate → State
 baseOf m c = record { groups = groupsOf (numbers (c .labels)) m m; scores = c .scores }
 
--- the answer: how many groups, and the place of the next draw, which is `next`; or what ends the run. A round without a candidate
+-- the answer: how many groups, and the source behind the draws, which is `next`; or what ends the run. A round without a candidate
 -- would end it, but no call has one (certain_runs/specs/Certain.antt)
-abbrev pub basedOf : ℕ → ℕ → Drawn Best → Based
+abbrev pub basedOf : ℕ → Source → Drawn Best → Based
 basedOf m next (drawn nothing rest) = Stopped ClusteringFailed
 basedOf m next (drawn (found c) rest) = Done (length (baseOf m c .groups)) next
 basedOf m next (refused p) = Stopped (DrawOutOfRange p)
@@ -36,6 +37,6 @@ Leaves m (drawn nothing rest) order sizes scores = Unit
 Leaves m (drawn (found c) rest) order sizes scores = Stands m (baseOf m c) order sizes scores
 Leaves m (refused p) order sizes scores = Unit
 
-pub record BasedBy (m : ℕ) (D : Drawn Best) (next : ℕ) (r : Based) (order′ sizes′ : List ℕ) (scores′ : List Float) : Type 0 where
+pub record BasedBy (m : ℕ) (D : Drawn Best) (next : Source) (r : Based) (order′ sizes′ : List ℕ) (scores′ : List Float) : Type 0 where
   pub answer-is : r ≡ basedOf m next D
   pub leaves : Leaves m D order′ sizes′ scores′

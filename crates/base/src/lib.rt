@@ -1,19 +1,20 @@
 // The clustering of a round before any group is tried again. Inner form, for the rounds.
 ghost use mathlib.Core.Path.{_≡_};
-ghost use Prim.Native.Nat.{_+_, _*_};
-ghost use lib.ListN.{length, drop};
-ghost use Rattle.draws.specs.Counts.{countOf};
+ghost use Prim.Native.Nat.{_*_};
+ghost use lib.ListN.{length};
 ghost use Rattle.distance.specs.Distance.{Readable, distAt};
 ghost use Rattle.candidates.specs.Candidates.{bestOf};
+ghost use Rattle.candidates.specs.Made.{repeatsGiven, repeatsMoved};
 ghost use Rattle.candidates.specs.Steps.{Enough, SearchedBy};
 ghost use Rattle.base.specs.Base.{BasedBy};
 use candidates::Searched;
 use choice::Kept;
 use draws::Stop;
+use plusplus_seeded::Source;
 
-// How many groups, and the place of the next draw; or what ends the run.
+// How many groups, and the source behind the draws; or what ends the run.
 pub enum Based {
-    Done(usize, usize),
+    Done(usize, Source),
     Stopped(Stop),
 }
 
@@ -24,20 +25,20 @@ fn best_of_book(
     rows: &[usize],
     repeat: usize,
     draws: &[u64],
-    at: usize,
+    src: Source,
     area: &mut [f64],
     labels: &mut [usize],
     scores: &mut [f64],
 ) -> Searched
-    requires { ⌜ Readable (now book) n (now rows) × Enough (length (now rows)) repeat (now draws) at × (length (now area) ≡ 5 * (length (now rows) * length (now rows)))
+    requires { ⌜ Readable (now book) n (now rows) × Enough (length (now rows)) repeat (now draws) src × (length (now area) ≡ 5 * (length (now rows) * length (now rows)))
         × (length (now labels) ≡ length (now rows)) × (length (now scores) ≡ length (now rows)) ⌝ }
-    ensures { λ r. ⌜ SearchedBy (bestOf (distAt (now (book .entry)) n (now (rows .entry))) (length (now (rows .entry))) repeat at (drop at (now (draws .entry))))
-        (at + repeat * countOf (length (now (rows .entry)))) r (now (labels .exit)) (now (scores .exit)) ⌝ }
+    ensures { λ r. ⌜ SearchedBy (bestOf (distAt (now (book .entry)) n (now (rows .entry))) (length (now (rows .entry))) repeat (src .at) (repeatsGiven (distAt (now (book .entry)) n (now (rows .entry))) (length (now (rows .entry))) repeat src (now (draws .entry))))
+        (repeatsMoved (distAt (now (book .entry)) n (now (rows .entry))) (length (now (rows .entry))) repeat src) r (now (labels .exit)) (now (scores .exit)) ⌝ }
 {
     let m = rows.len();
     let four = 4 * (m * m);
     areas::book_pairs(book, n, rows, &mut area[..four]);
-    candidates::best_candidate(area, m, repeat, draws, at, labels, scores)
+    candidates::best_candidate(area, m, repeat, draws, src, labels, scores)
 }
 
 // Its groups and its scores.
@@ -47,19 +48,19 @@ fn base_of_book(
     rows: &[usize],
     repeat: usize,
     draws: &[u64],
-    at: usize,
+    src: Source,
     area: &mut [f64],
     labels: &mut [usize],
     order: &mut [usize],
     sizes: &mut [usize],
     scores: &mut [f64],
 ) -> Based
-    requires { ⌜ Readable (now book) n (now rows) × Enough (length (now rows)) repeat (now draws) at × (length (now area) ≡ 5 * (length (now rows) * length (now rows)))
+    requires { ⌜ Readable (now book) n (now rows) × Enough (length (now rows)) repeat (now draws) src × (length (now area) ≡ 5 * (length (now rows) * length (now rows)))
         × (length (now labels) ≡ length (now rows)) × (length (now order) ≡ length (now rows)) × (length (now sizes) ≡ length (now rows)) × (length (now scores) ≡ length (now rows)) ⌝ }
-    ensures { λ r. ⌜ BasedBy (length (now (rows .entry))) (bestOf (distAt (now (book .entry)) n (now (rows .entry))) (length (now (rows .entry))) repeat at (drop at (now (draws .entry))))
-        (at + repeat * countOf (length (now (rows .entry)))) r (now (order .exit)) (now (sizes .exit)) (now (scores .exit)) ⌝ }
+    ensures { λ r. ⌜ BasedBy (length (now (rows .entry))) (bestOf (distAt (now (book .entry)) n (now (rows .entry))) (length (now (rows .entry))) repeat (src .at) (repeatsGiven (distAt (now (book .entry)) n (now (rows .entry))) (length (now (rows .entry))) repeat src (now (draws .entry))))
+        (repeatsMoved (distAt (now (book .entry)) n (now (rows .entry))) (length (now (rows .entry))) repeat src) r (now (order .exit)) (now (sizes .exit)) (now (scores .exit)) ⌝ }
 {
-    match best_of_book(book, n, rows, repeat, draws, at, area, labels, scores) {
+    match best_of_book(book, n, rows, repeat, draws, src, area, labels, scores) {
         Searched::Stopped(s) => Based::Stopped(s),
         Searched::Done(next, kept) => match kept {
             // never so: each candidate has a t-stat above -infinity (crates/certain_runs)
@@ -72,7 +73,7 @@ fn base_of_book(
     }
 }
 
-// The best candidate's groups and scores, with the draws from place `at` on, for the book that the rows make. Inner form. The areas
+// The best candidate's groups and scores, by the draws of the source, for the book that the rows make. Inner form. The areas
 // hold anything afterwards, and so do the other lists where there is no base.
 pub fn cluster_kmeans_base(
     book: &[f64],
@@ -80,16 +81,16 @@ pub fn cluster_kmeans_base(
     rows: &[usize],
     repeat: usize,
     draws: &[u64],
-    at: usize,
+    src: Source,
     area: &mut [f64],
     order: &mut [usize],
     sizes: &mut [usize],
     scores: &mut [f64],
 ) -> Based
-    requires { ⌜ Readable (now book) n (now rows) × Enough (length (now rows)) repeat (now draws) at × (length (now area) ≡ 5 * (length (now rows) * length (now rows)))
+    requires { ⌜ Readable (now book) n (now rows) × Enough (length (now rows)) repeat (now draws) src × (length (now area) ≡ 5 * (length (now rows) * length (now rows)))
         × (length (now order) ≡ length (now rows)) × (length (now sizes) ≡ length (now rows)) × (length (now scores) ≡ length (now rows)) ⌝ }
-    ensures { λ r. ⌜ BasedBy (length (now (rows .entry))) (bestOf (distAt (now (book .entry)) n (now (rows .entry))) (length (now (rows .entry))) repeat at (drop at (now (draws .entry))))
-        (at + repeat * countOf (length (now (rows .entry)))) r (now (order .exit)) (now (sizes .exit)) (now (scores .exit)) ⌝ }
+    ensures { λ r. ⌜ BasedBy (length (now (rows .entry))) (bestOf (distAt (now (book .entry)) n (now (rows .entry))) (length (now (rows .entry))) repeat (src .at) (repeatsGiven (distAt (now (book .entry)) n (now (rows .entry))) (length (now (rows .entry))) repeat src (now (draws .entry))))
+        (repeatsMoved (distAt (now (book .entry)) n (now (rows .entry))) (length (now (rows .entry))) repeat src) r (now (order .exit)) (now (sizes .exit)) (now (scores .exit)) ⌝ }
 {
     let m = rows.len();
     let mut labels = lists::number_buffer();
@@ -99,7 +100,7 @@ pub fn cluster_kmeans_base(
         rows,
         repeat,
         draws,
-        at,
+        src,
         area,
         &mut labels[..m],
         order,

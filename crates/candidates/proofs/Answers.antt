@@ -7,6 +7,7 @@ use lib.Ieee.{Float}
 use Rattle.draws.specs.Draws.{Drawn, drawn, refused}
 use Rattle.draws.specs.declared.Stop.{Stop}
 use Rattle.draws.specs.declared.Stop.the-variants.{DrawOutOfRange}
+use Rattle.plusplus_seeded.specs.declared.Source.{Source}
 use Rattle.choice.specs.declared.Kept.{Kept}
 use Rattle.choice.specs.declared.Kept.the-variants.{Nothing, Candidate}
 use Rattle.candidates.specs.declared.Searched.the-variants.{Done, Stopped}
@@ -29,7 +30,7 @@ lists-are Nothing l s = tt
 lists-are (Candidate a b) l s = (refl, refl)
 
 -- the best that an answer tells
-pub searched-done : (D : Drawn Best) {next n : ℕ} {kept : Kept} {l : List ℕ} {s : List Float} → SearchedBy D next (Done n kept) l s
+pub searched-done : (D : Drawn Best) {next n : Source} {kept : Kept} {l : List ℕ} {s : List Float} → SearchedBy D next (Done n kept) l s
     → (rest : List ℕ) × (n ≡ next) × (D ≡ drawn (bestFrom kept l s) rest)
 searched-done (drawn b rest) {next} {n} {kept} {l} {s} h =
     let a : Done n kept ≡ Done next (keptOf b) = h .answer-is in
@@ -41,7 +42,7 @@ searched-done (refused p) {next} {n} {kept} {l} {s} h =
     let z : _≡_ {A = ℕ} 0 1 = cc in
     absurd (omega arith)
 
-pub searched-stopped : (D : Drawn Best) {next : ℕ} {w : Stop} {l : List ℕ} {s : List Float} → SearchedBy D next (Stopped w) l s
+pub searched-stopped : (D : Drawn Best) {next : Source} {w : Stop} {l : List ℕ} {s : List Float} → SearchedBy D next (Stopped w) l s
     → (p : ℕ) × (D ≡ refused p) × (w ≡ DrawOutOfRange p)
 searched-stopped (drawn b rest) {next} {w} {l} {s} h =
     let a : Stopped w ≡ Done next (keptOf b) = h .answer-is in
@@ -53,25 +54,25 @@ searched-stopped (refused p) {next} {w} {l} {s} h =
     (p, refl, e)
 
 -- the same, by whether there is a best
-pub searched-nothing : (D : Drawn Best) {next n : ℕ} {l : List ℕ} {s : List Float} → SearchedBy D next (Done n Nothing) l s
+pub searched-nothing : (D : Drawn Best) {next n : Source} {l : List ℕ} {s : List Float} → SearchedBy D next (Done n Nothing) l s
     → (rest : List ℕ) × (D ≡ drawn nothing rest) × (n ≡ next)
 searched-nothing D h = let v = searched-done D h in (v .0, v .2, v .1)
 
-pub searched-found : (D : Drawn Best) {next n : ℕ} {a b : Float} {l : List ℕ} {s : List Float} → SearchedBy D next (Done n (Candidate a b)) l s
+pub searched-found : (D : Drawn Best) {next n : Source} {a b : Float} {l : List ℕ} {s : List Float} → SearchedBy D next (Done n (Candidate a b)) l s
     → (c : candidates.Candidate) × (rest : List ℕ) × (D ≡ drawn (found c) rest) × (l ≡ c .labels) × (s ≡ c .scores) × (n ≡ next)
 searched-found D {next} {n} {a} {b} {l} {s} h =
     let v = searched-done D h in
     (record { labels = l; scores = s; stat = a; mean = b }, v .0, v .2, refl, refl, v .1)
 
 -- an answer with the best, and one that ends the run
-pub done-by : (D : Drawn Best) (next n : ℕ) (kept : Kept) (l : List ℕ) (s : List Float) (rest : List ℕ) → D ≡ drawn (bestFrom kept l s) rest → n ≡ next → SearchedBy D next (Done n kept) l s
+pub done-by : (D : Drawn Best) (next n : Source) (kept : Kept) (l : List ℕ) (s : List Float) (rest : List ℕ) → D ≡ drawn (bestFrom kept l s) rest → n ≡ next → SearchedBy D next (Done n kept) l s
 done-by D next n kept l s rest e q = record { answer-is = rw (e, q) (ap (Done next) (kept-is kept l s)); leaves = rw e (lists-are kept l s) }
 
-pub stopped-by : (D : Drawn Best) (next : ℕ) (w : Stop) (l : List ℕ) (s : List Float) (p : ℕ) → D ≡ refused p → w ≡ DrawOutOfRange p → SearchedBy D next (Stopped w) l s
+pub stopped-by : (D : Drawn Best) (next : Source) (w : Stop) (l : List ℕ) (s : List Float) (p : ℕ) → D ≡ refused p → w ≡ DrawOutOfRange p → SearchedBy D next (Stopped w) l s
 stopped-by D next w l s p e q = record { answer-is = rw (e, q) refl; leaves = rw e tt }
 
 -- what the answer on one candidate says of it
-pub tried-made : (D : Drawn candidates.Candidate) {next n : ℕ} {a b : Float} {l : List ℕ} {s : List Float} → TriedBy D next (Made n a b) l s
+pub tried-made : (D : Drawn candidates.Candidate) {next n : Source} {a b : Float} {l : List ℕ} {s : List Float} → TriedBy D next (Made n a b) l s
     → (rest : List ℕ) × (n ≡ next) × (D ≡ drawn (record { labels = l; scores = s; stat = a; mean = b }) rest)
 tried-made (drawn c rest) {next} {n} {a} {b} {l} {s} h =
     let q : Made n a b ≡ Made next (c .stat) (c .mean) = h .answer-is in
@@ -84,7 +85,7 @@ tried-made (refused p) {next} {n} {a} {b} {l} {s} h =
     let z : _≡_ {A = ℕ} 0 1 = cc in
     absurd (omega arith)
 
-pub tried-refused : (D : Drawn candidates.Candidate) {next : ℕ} {w : Stop} {l : List ℕ} {s : List Float} → TriedBy D next (Refused w) l s
+pub tried-refused : (D : Drawn candidates.Candidate) {next : Source} {w : Stop} {l : List ℕ} {s : List Float} → TriedBy D next (Refused w) l s
     → (p : ℕ) × (D ≡ refused p) × (w ≡ DrawOutOfRange p)
 tried-refused (drawn c rest) {next} {w} {l} {s} h =
     let q : Refused w ≡ Made next (c .stat) (c .mean) = h .answer-is in
@@ -95,5 +96,5 @@ tried-refused (refused p) {next} {w} {l} {s} h =
     let e : w ≡ DrawOutOfRange p = cc in
     (p, refl, e)
 
-pub refused-by : (D : Drawn candidates.Candidate) (next : ℕ) (w : Stop) (l : List ℕ) (s : List Float) (p : ℕ) → D ≡ refused p → w ≡ DrawOutOfRange p → TriedBy D next (Refused w) l s
+pub refused-by : (D : Drawn candidates.Candidate) (next : Source) (w : Stop) (l : List ℕ) (s : List Float) (p : ℕ) → D ≡ refused p → w ≡ DrawOutOfRange p → TriedBy D next (Refused w) l s
 refused-by D next w l s p e q = record { answer-is = rw (e, q) refl; written = rw e tt }

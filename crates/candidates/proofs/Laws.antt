@@ -123,7 +123,7 @@ best-took x m repeats two at ds = repeats-took x m (omega arith) (Found x m) (fo
 
 -- draws that stand behind those that are taken change nothing
 module _ (x : ℕ → ℕ → Float) (m : ℕ) (z : 0 < m) where
-  tries-behind : (j k : ℕ) → 0 < k → (u : Best) (at : ℕ) (p b : List ℕ) → seedingsOf k j ≤ length p → triesFrom x m k j u at (p ++ b) ≡ behind b (triesFrom x m k j u at p)
+  pub tries-behind : (j k : ℕ) → 0 < k → (u : Best) (at : ℕ) (p b : List ℕ) → seedingsOf k j ≤ length p → triesFrom x m k j u at (p ++ b) ≡ behind b (triesFrom x m k j u at p)
   unfolding triesFrom seedingsOf
   tries-behind zero k some u at p b l = refl
   tries-behind (suc j) k some u at p b l =

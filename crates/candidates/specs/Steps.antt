@@ -1,5 +1,5 @@
 -- What the steps of the search ask and leave. Definitions only.
-use Prim.Native.Nat.{ℕ, _+_, _*_, _≤_}
+use Prim.Native.Nat.{ℕ, _*_, _≤_}
 use mathlib.Core.Path.{_≡_}
 use mathlib.Core.List.{List}
 use lib.ListN.{length}
@@ -7,6 +7,8 @@ use lib.Ieee.{Float}
 use Rattle.draws.specs.Counts.{countOf}
 use Rattle.draws.specs.Draws.{Drawn, drawn, refused}
 use Rattle.draws.specs.declared.Stop.the-variants.{DrawOutOfRange}
+use Rattle.plusplus_seeded.specs.declared.Source.{Source}
+use Rattle.plusplus_seeded.specs.Sources.{RngOf, Supplies}
 use Rattle.choice.specs.declared.Kept.{Kept}
 use Rattle.choice.specs.declared.Kept.the-variants.{Nothing, Candidate}
 use Rattle.candidates.specs.declared.Searched.{Searched}
@@ -31,8 +33,8 @@ abbrev pub Holds : Best → List ℕ → List Float → Type 0
 Holds nothing labels scores = Unit
 Holds (found c) labels scores = (labels ≡ c .labels) × (scores ≡ c .scores)
 
--- the answer on one candidate: the place of the next draw, which is `next`, its t-stat and its mean; or the place of a draw out of range
-abbrev pub triedOf : ℕ → Drawn candidates.Candidate → Tried
+-- the answer on one candidate: the source behind its draws, which is `next`, its t-stat and its mean; or the place of a draw out of range
+abbrev pub triedOf : Source → Drawn candidates.Candidate → Tried
 triedOf next (drawn c rest) = Made next (c .stat) (c .mean)
 triedOf next (refused p) = Refused (DrawOutOfRange p)
 
@@ -41,12 +43,12 @@ abbrev pub Written : Drawn candidates.Candidate → List ℕ → List Float → 
 Written (drawn c rest) labels scores = (labels ≡ c .labels) × (scores ≡ c .scores)
 Written (refused p) labels scores = Unit
 
-pub record TriedBy (D : Drawn candidates.Candidate) (next : ℕ) (r : Tried) (labels′ : List ℕ) (scores′ : List Float) : Type 0 where
+pub record TriedBy (D : Drawn candidates.Candidate) (next : Source) (r : Tried) (labels′ : List ℕ) (scores′ : List Float) : Type 0 where
   pub answer-is : r ≡ triedOf next D
   pub written : Written D labels′ scores′
 
--- the answer: the place of the next draw, which is `next`, and what is kept; or the place of a draw out of range
-abbrev pub searchedOf : ℕ → Drawn Best → Searched
+-- the answer: the source behind the draws, which is `next`, and what is kept; or the place of a draw out of range
+abbrev pub searchedOf : Source → Drawn Best → Searched
 searchedOf next (drawn b rest) = Done next (keptOf b)
 searchedOf next (refused p) = Stopped (DrawOutOfRange p)
 
@@ -54,9 +56,14 @@ abbrev pub Leaves : Drawn Best → List ℕ → List Float → Type 0
 Leaves (drawn b rest) labels scores = Holds b labels scores
 Leaves (refused p) labels scores = Unit
 
-pub record SearchedBy (D : Drawn Best) (next : ℕ) (r : Searched) (labels′ : List ℕ) (scores′ : List Float) : Type 0 where
+pub record SearchedBy (D : Drawn Best) (next : Source) (r : Searched) (labels′ : List ℕ) (scores′ : List Float) : Type 0 where
   pub answer-is : r ≡ searchedOf next D
   pub leaves : Leaves D labels′ scores′
+
+-- the generator of the source behind the draws
+abbrev pub RngBehind : Searched → List ℕ → Type 0
+RngBehind (Done next kept) rng = RngOf next rng
+RngBehind (Stopped s) rng = Unit
 
 -- the labels and the scores of the best, and those of a candidate, for m items
 pub record Lists (m : ℕ) (labels : List ℕ) (scores : List Float) (newLabels : List ℕ) (newScores : List Float) : Type 0 where
@@ -65,9 +72,9 @@ pub record Lists (m : ℕ) (labels : List ℕ) (scores : List Float) (newLabels 
   pub new-labels-long : length newLabels ≡ m
   pub new-scores-long : length newScores ≡ m
 
--- m items, and draws enough for all repeats from `at` on
-pub record Enough (m repeats : ℕ) (draws : List ℕ) (at : ℕ) : Type 0 where
+-- m items, and a source with draws enough for all repeats
+pub record Enough (m repeats : ℕ) (draws : List ℕ) (src : Source) : Type 0 where
   pub two : 2 ≤ m
   pub some : 1 ≤ repeats
   pub times : repeats ≤ 64
-  pub enough : at + repeats * countOf m ≤ length draws
+  pub supplies : Supplies src draws (repeats * countOf m)

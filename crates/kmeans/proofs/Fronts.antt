@@ -6,12 +6,14 @@ use native.Mathlib.Omega.{arith}
 use lib.ListN.{length, take, drop, length-append, length-drop}
 use lib.Seq.{take-take, take-all, take-at, length-take-le}
 use lib.Ieee.{Float}
+use Rattle.plusplus_seeded.specs.declared.Source.{Source}
+use Rattle.plusplus_seeded.specs.Sources.{MaySupply}
+use Rattle.kmeans.specs.Steps.{MayCluster}
 use Rattle.lists.specs.Lists.{cellAt, part, matrixOf}
 use Rattle.lists.proofs.Parts.{front-less, part-front, part-length}
 use Rattle.distance_columns.specs.Pair.{squaredAt}
 use Rattle.distance_columns.specs.Columns.{pointsAt}
 use Rattle.areas.specs.Regions.{Area, Turned, Summed}
-use Rattle.plusplus.specs.Seeding.{MaySeed, Ready}
 use Rattle.lloyd_table.specs.Area.{Held}
 
 -- four areas and a fifth
@@ -71,10 +73,13 @@ module _ (area : List Float) (m : ℕ) (h : Held area m) where
   pub third-area : part (2 * (m * m)) (3 * (m * m) - 2 * (m * m)) area ≡ matrixOf (squaredAt (pointsAt area m) m) m
   third-area = rw third-size (h .squares)
 
-  pub third-ready : (k : ℕ) (draws : List ℕ) (at : ℕ) → MaySeed m k draws at → Ready (part (2 * (m * m)) (3 * (m * m) - 2 * (m * m)) area) m k draws at
-  third-ready k draws at q =
+  -- a seeding may start from it
+  pub third-supply : (k : ℕ) (draws : List ℕ) (src : Source) → MayCluster m k draws src → MaySupply (part (2 * (m * m)) (3 * (m * m) - 2 * (m * m)) area) m k draws src
+  third-supply k draws src q =
       record {
+        two = q .two;
+        names = q .names;
         few = h .few;
         square = rw third-size (part-length (2 * (m * m)) (m * m) area (omega (arith, h .size)));
-        asked = q;
+        supplies = q .supplies;
       }

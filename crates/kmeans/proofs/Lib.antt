@@ -2,3 +2,4 @@
 pub mod Fronts
 pub mod Laws
 pub mod Bad
+pub mod Sourced

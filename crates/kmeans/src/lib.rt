@@ -8,14 +8,23 @@ ghost use Rattle.draws.specs.Counts.{seedingOf};
 ghost use Rattle.plusplus.specs.Seeding.{seeding, MaySeed, SeededBy};
 ghost use Rattle.lloyd_table.specs.Area.{Held};
 ghost use Rattle.kmeans.specs.Clustering.{kmeansOf};
-ghost use Rattle.kmeans.specs.Steps.{ClusteredBy};
+ghost use Rattle.kmeans.specs.Steps.{ClusteredBy, LabelledBy, MayCluster, seedGiven, seedMoved};
+ghost use Rattle.plusplus_seeded.specs.Sources.{SuppliedBy, RngOf};
 use draws::Stop;
 use lloyd_pass::Ended;
 use plusplus::Seeded;
+use plusplus_seeded::Source;
+use plusplus_seeded::Supplied;
 
 // The place of the next draw, and whether the passes converged; or what ends the run.
 pub enum Clustered {
     Done(usize, Ended),
+    Stopped(Stop),
+}
+
+// The source behind the draws, and whether the passes converged; or what ends the run.
+pub enum Labelled {
+    Done(Source, Ended),
     Stopped(Stop),
 }
 
@@ -31,8 +40,28 @@ pub fn prepare(points: &[f64], m: usize, area: &mut [f64])
     areas::squares_in(&mut area[..four], m);
 }
 
-// As many centres as the list holds, by the squared pair distances in the third area. Inner form. The weights are left with
+// As many centres as the list holds, by the squared pair distances in the third area and the draws of the source. The weights are left with
 // anything, and so are the centres where a draw was out of range.
+fn seed_by_in(
+    area: &[f64],
+    m: usize,
+    draws: &[u64],
+    src: Source,
+    centres: &mut [usize],
+    weights: &mut [f64],
+    rng: &mut [u32],
+) -> Supplied
+    requires { ⌜ Held (now area) m × MayCluster m (length (now centres)) (now draws) src × (length (now weights) ≡ m) × RngOf src (now rng) ⌝ }
+    ensures { λ r. ⌜ SuppliedBy (seeding (squaredAt (pointsAt (now (area .entry)) m) m) m (length (now (centres .entry))) (src .at) (seedGiven (pointsAt (now (area .entry)) m) m (length (now (centres .entry))) src (now (draws .entry))))
+        (seedMoved (pointsAt (now (area .entry)) m) m (length (now (centres .entry))) src) r (now (centres .exit)) ⌝ }
+    ensures { λ _. ⌜ RngOf (seedMoved (pointsAt (now (area .entry)) m) m (length (now (centres .entry))) src) (now (rng .exit)) ⌝ }
+{
+    let third = 2 * (m * m);
+    let end = 3 * (m * m);
+    plusplus_seeded::seed_by(&area[third..end], draws, src, centres, weights, rng)
+}
+
+// The same with the draws of the list from place `at` on. Inner form.
 pub fn seed_in(
     area: &[f64],
     m: usize,
@@ -45,9 +74,17 @@ pub fn seed_in(
     ensures { λ r. ⌜ SeededBy (seeding (squaredAt (pointsAt (now (area .entry)) m) m) m (length (now (centres .entry))) at (drop at (now (draws .entry))))
         (at + seedingOf (length (now (centres .entry)))) r (now (centres .exit)) ⌝ }
 {
-    let third = 2 * (m * m);
-    let end = 3 * (m * m);
-    plusplus::seed(&area[third..end], draws, at, centres, weights)
+    let src = Source {
+        at,
+        seeded: false,
+        seed: 0,
+        taken: 0,
+    };
+    let mut none = rng_std::rng_buffer();
+    match seed_by_in(area, m, draws, src, centres, weights, &mut none) {
+        Supplied::Stopped(s) => Seeded::Stopped(s),
+        Supplied::Done(next) => Seeded::Done(next.at),
+    }
 }
 
 // Centres, then labels. The labels are written once the draws have been taken.
@@ -55,27 +92,58 @@ fn cluster(
     area: &mut [f64],
     m: usize,
     draws: &[u64],
-    at: usize,
+    src: Source,
     labels: &mut [usize],
     centres: &mut [usize],
     weights: &mut [f64],
-) -> Clustered
-    requires { ⌜ Held (now area) m × MaySeed m (length (now centres)) (now draws) at × (length (now weights) ≡ m) × (length (now labels) ≡ m) ⌝ }
-    ensures { λ r. ⌜ ClusteredBy (kmeansOf (pointsAt (now (area .entry)) m) m (length (now (centres .entry))) at (drop at (now (draws .entry))))
-        (at + seedingOf (length (now (centres .entry)))) (now (labels .entry)) r (now (labels .exit)) ⌝ }
+    rng: &mut [u32],
+) -> Labelled
+    requires { ⌜ Held (now area) m × MayCluster m (length (now centres)) (now draws) src × (length (now weights) ≡ m) × (length (now labels) ≡ m) × RngOf src (now rng) ⌝ }
+    ensures { λ r. ⌜ LabelledBy (kmeansOf (pointsAt (now (area .entry)) m) m (length (now (centres .entry))) (src .at) (seedGiven (pointsAt (now (area .entry)) m) m (length (now (centres .entry))) src (now (draws .entry))))
+        (seedMoved (pointsAt (now (area .entry)) m) m (length (now (centres .entry))) src) (now (labels .entry)) r (now (labels .exit)) ⌝ }
     ensures { λ _. ⌜ take (4 * (m * m)) (now (area .exit)) ≡ take (4 * (m * m)) (now (area .entry)) ⌝ }
+    ensures { λ _. ⌜ RngOf (seedMoved (pointsAt (now (area .entry)) m) m (length (now (centres .entry))) src) (now (rng .exit)) ⌝ }
 {
-    match seed_in(area, m, draws, at, centres, weights) {
-        Seeded::Stopped(s) => Clustered::Stopped(s),
-        Seeded::Done(next) => {
+    match seed_by_in(area, m, draws, src, centres, weights, rng) {
+        Supplied::Stopped(s) => Labelled::Stopped(s),
+        Supplied::Done(next) => {
             let ended = lloyd::lloyd_in(area, m, centres, labels);
-            Clustered::Done(next, ended)
+            Labelled::Done(next, ended)
         }
     }
 }
 
-// The labels of the m items in k groups, with the draws from place `at` on. Inner form. The fifth area, the table, is left with
+// The labels of the m items in k groups, by the draws of the source. Inner form. The fifth area, the table, is left with
 // anything; a draw out of range leaves the labels as they were.
+pub fn labels_by(
+    area: &mut [f64],
+    m: usize,
+    k: usize,
+    draws: &[u64],
+    src: Source,
+    labels: &mut [usize],
+    rng: &mut [u32],
+) -> Labelled
+    requires { ⌜ Held (now area) m × MayCluster m k (now draws) src × (length (now labels) ≡ m) × RngOf src (now rng) ⌝ }
+    ensures { λ r. ⌜ LabelledBy (kmeansOf (pointsAt (now (area .entry)) m) m k (src .at) (seedGiven (pointsAt (now (area .entry)) m) m k src (now (draws .entry)))) (seedMoved (pointsAt (now (area .entry)) m) m k src) (now (labels .entry)) r (now (labels .exit)) ⌝ }
+    ensures { λ _. ⌜ take (4 * (m * m)) (now (area .exit)) ≡ take (4 * (m * m)) (now (area .entry)) ⌝ }
+    ensures { λ _. ⌜ RngOf (seedMoved (pointsAt (now (area .entry)) m) m k src) (now (rng .exit)) ⌝ }
+{
+    let mut centres = lists::number_buffer();
+    let mut weights = lists::row_buffer();
+    cluster(
+        area,
+        m,
+        draws,
+        src,
+        labels,
+        &mut centres[..k],
+        &mut weights[..m],
+        rng,
+    )
+}
+
+// The same with the draws of the list from place `at` on.
 pub fn labels_in(
     area: &mut [f64],
     m: usize,
@@ -88,15 +156,15 @@ pub fn labels_in(
     ensures { λ r. ⌜ ClusteredBy (kmeansOf (pointsAt (now (area .entry)) m) m k at (drop at (now (draws .entry)))) (at + seedingOf k) (now (labels .entry)) r (now (labels .exit)) ⌝ }
     ensures { λ _. ⌜ take (4 * (m * m)) (now (area .exit)) ≡ take (4 * (m * m)) (now (area .entry)) ⌝ }
 {
-    let mut centres = lists::number_buffer();
-    let mut weights = lists::row_buffer();
-    cluster(
-        area,
-        m,
-        draws,
+    let src = Source {
         at,
-        labels,
-        &mut centres[..k],
-        &mut weights[..m],
-    )
+        seeded: false,
+        seed: 0,
+        taken: 0,
+    };
+    let mut none = rng_std::rng_buffer();
+    match labels_by(area, m, k, draws, src, labels, &mut none) {
+        Labelled::Stopped(s) => Clustered::Stopped(s),
+        Labelled::Done(next, ended) => Clustered::Done(next.at, ended),
+    }
 }

@@ -1,11 +1,10 @@
 -- What one member makes of the sums, what scaling makes of them, and the distances to a mean that stands in a list.
-use Prim.Native.Nat.{_+_, _-_, _≤_, ℕ}
+use Prim.Native.Nat.{_+_, _-_, ℕ}
 use mathlib.Core.Path.{_∙_, _≡_, ap, sym}
 use mathlib.Core.Bool.{Bool, false, true}
-use mathlib.Core.List.{List, _++_}
+use mathlib.Core.List.{List}
 use native.Mathlib.Omega.{arith}
-use lib.ListN.{length, length-append, replicate, take}
-use lib.Seq.{take-at}
+use lib.ListN.{length, replicate}
 use lib.Ieee.{Float, add, binary64, mul, nan}
 use Rattle.lists.specs.Sums.{foldIf, squareFrom, sumIf, sumTo, zero64}
 use Rattle.lists.specs.Lists.{cellAt, cells, matrixOf, listed, row}
@@ -54,10 +53,3 @@ to-centroid x h m {own} {across} p q =
     rw z
     (sum-same (λ k. squareFrom (columnAt across m j k) (cells (listed h m) k)) (λ k. squareFrom (h k) (x j k)) m
     (λ k r. rw (in-matrix (λ a b. x b a) m k j nan q r l, getD-listed h m k nan r) (square-flip (h k) (x j k))))))
-
--- a part at the front of an array has come back
-pub front-fits : (p q : List Float) (m : ℕ) → length p ≡ m → m ≤ length (p ++ q)
-front-fits p q m e = simp length-append (omega arith)
-
-pub front-length : (p q : List Float) (m : ℕ) → length p ≡ m → length (take m (p ++ q)) ≡ m
-front-length p q m e = rw (take-at p q m e) e

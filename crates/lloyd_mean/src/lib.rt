@@ -53,6 +53,30 @@ fn mean_row(points: &[f64], labels: &[usize], l: usize, n: usize, out: &mut [f64
     scale(out, lists::count_as_f64(n));
 }
 
+// The squared distance of each item to the mean of the n members of group l, which is left in `mean`. Inner form, as the next.
+fn distances_with(
+    points: &[f64],
+    across: &[f64],
+    labels: &[usize],
+    l: usize,
+    n: usize,
+    mean: &mut [f64],
+    out: &mut [f64],
+)
+    requires { ⌜ Items (now points) (now across) (length (now labels)) × (length (now mean) ≡ length (now labels)) × (length (now out) ≡ length (now labels)) ⌝ }
+    ensures { λ _. ⌜ now (out .exit) ≡ distances (cellAt (now (points .entry)) (length (now (labels .entry)))) (length (now (labels .entry))) (meanOver (cellAt (now (points .entry)) (length (now (labels .entry)))) (numbers (now (labels .entry))) (length (now (labels .entry))) n l) ⌝ }
+{
+    mean_row(points, labels, l, n, mean);
+    distance_columns::squared_tail(mean, across, 0, out);
+}
+
+// Room for a mean of at most 32 cells: most means are of small rounds, and a list of 256 cells takes longer to make than such a mean.
+fn short_buffer() -> [f64; 32]
+    ensures { λ r. ⌜ 32 ≡ length r ⌝ }
+{
+    [0.0; 32]
+}
+
 // The squared distance of each item to the mean of the n members of group l. Inner form: `across` is the transpose of `points`.
 pub fn mean_distances(
     points: &[f64],
@@ -66,7 +90,11 @@ pub fn mean_distances(
     ensures { λ _. ⌜ now (out .exit) ≡ distances (cellAt (now (points .entry)) (length (now (labels .entry)))) (length (now (labels .entry))) (meanOver (cellAt (now (points .entry)) (length (now (labels .entry)))) (numbers (now (labels .entry))) (length (now (labels .entry))) n l) ⌝ }
 {
     let m = labels.len();
+    if m <= 32 {
+        let mut mean = short_buffer();
+        distances_with(points, across, labels, l, n, &mut mean[..m], out);
+        return;
+    }
     let mut mean = lists::row_buffer();
-    mean_row(points, labels, l, n, &mut mean[..m]);
-    distance_columns::squared_tail(&mean[..m], across, 0, out);
+    distances_with(points, across, labels, l, n, &mut mean[..m], out);
 }

@@ -57,6 +57,13 @@ fn refresh_rows(
     }
 }
 
+// Room for the sizes or the marks of at most 32 groups: a list of 256 numbers takes longer to make than a pass over few items.
+fn short_buffer() -> [usize; 32]
+    ensures { λ r. ⌜ 32 ≡ length r ⌝ }
+{
+    [0; 32]
+}
+
 // The same, with sizes and marks of its own. `dists`, `sums` and the rows of the table behind the k-th are left with anything.
 pub fn refresh(
     area: &mut [f64],
@@ -73,6 +80,21 @@ pub fn refresh(
     ensures { λ _. ⌜ take (4 * (length (now (labels .entry)) * length (now (labels .entry)))) (now (area .exit)) ≡ take (4 * (length (now (labels .entry)) * length (now (labels .entry)))) (now (area .entry)) ⌝ }
 {
     let m = labels.len();
+    if m <= 32 {
+        let mut sizes = short_buffer();
+        let mut marks = short_buffer();
+        refresh_rows(
+            area,
+            old,
+            labels,
+            k,
+            dists,
+            sums,
+            &mut sizes[..m],
+            &mut marks[..m],
+        );
+        return;
+    }
     let mut sizes = lists::number_buffer();
     let mut marks = lists::number_buffer();
     refresh_rows(

@@ -78,7 +78,7 @@ module _ (book : List Float) (n repeat : ℕ) (draws : List ℕ) where
       q (best-took (distAt book n items) m repeat two at (drop at draws)) in
       omega (arith, length-map (weakItems (baseOf m c)) (numbers items), weak-many m (baseOf m c) (groups-partition (numbers (c .labels)) m (f .0 .1)))
 
-  reached-some : 2 ≤ n → {before items : List ℕ} → Reached book n repeat draws before items → 2 ≤ length items
+  pub reached-some : 2 ≤ n → {before items : List ℕ} → Reached book n repeat draws before items → 2 ≤ length items
   reached-some two first = omega (arith, all-length n)
   reached-some two (next b i c h q w) = next-some b i c (reached-some two h) q w
 

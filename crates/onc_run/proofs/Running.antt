@@ -1,6 +1,7 @@
 -- Laws of the steps of a call: what the rounds ask of the lists, and what is left of them once the working lists are wiped.
-use Prim.Native.Nat.{ℕ, _+_, _*_, _<_, _≤_}
+use Prim.Native.Nat.{ℕ, _+_, _*_, _<_, _≤_, zero-le}
 use mathlib.Core.Path.{_≡_, refl, sym, _∙_, ap, subst}
+use mathlib.Core.Bool.{Bool}
 use mathlib.Core.List.{List, _++_}
 use native.Mathlib.Omega.{arith}
 use lib.ListN.{length, take, drop, replicate}
@@ -15,17 +16,19 @@ use Rattle.distance.specs.Distance.{cellThrough}
 use Rattle.draws.specs.declared.Stop.{Stop}
 use Rattle.round_top.specs.declared.Top.{Top}
 use Rattle.round_top.specs.declared.Top.the-variants.{Done, Stopped as Ended}
+use Rattle.plusplus_seeded.specs.declared.Source.{Source}
 use Rattle.round.specs.Round.{Run, done, ended, roundOf}
+use Rattle.round.specs.Made.{roundGiven}
 use Rattle.round_top.specs.Steps.{Ready, RoundLeaves, topOf, orderAfter, sizesAfter, scoresAfter}
 use Rattle.round.proofs.Runs.{Whole}
 use Rattle.onc_answers.specs.declared.Onc.the-variants.{Grouped, Stopped}
 use Rattle.onc_answers.specs.Answers.{answerOf}
-use Rattle.onc_run.specs.Run.{Lists, Outcome, Limits, runOf, ran}
+use Rattle.onc_run.specs.Run.{Lists, Outcome, Limits, runOf, drawsOf, ran}
 use Rattle.onc_run.specs.Steps.{Ran}
 use Rattle.onc_run.proofs.Runs.{all, all-length}
 
 -- the numbers with the rows of the first round in front
-module _ (book : List Float) (n repeat : ℕ) (draws order sizes : List ℕ) (scores floats : List Float) (wi front : List ℕ)
+module _ (book : List Float) (n repeat : ℕ) (draws : List ℕ) (seeded : Bool) (seed : ℕ) (order sizes : List ℕ) (scores floats : List Float) (wi front : List ℕ)
     (fair : Limits book n repeat (length order) (length sizes) (length scores) (length floats) (length wi))
     (counted : front ≡ listed (λ i. i) (length (take n wi))) where
   inside : n ≤ length wi
@@ -51,8 +54,12 @@ module _ (book : List Float) (n repeat : ℕ) (draws order sizes : List ℕ) (sc
       let is : numbers (all n) j ≡ j = getD-listed (λ i. i) n j 0 in-n in
       omega (arith, there, is, in-n)
 
+  -- where the draws come from
+  abbrev src : Source
+  src = record { at = 0; seeded = seeded; seed = seed; taken = 0 }
+
   -- what the first round asks
-  pub run-ready : Ready book n repeat draws 0 32 order sizes scores (front ++ drop n wi) floats
+  pub run-ready : Ready book n repeat draws src 32 order sizes scores (front ++ drop n wi) floats
   run-ready =
       record {
         reads = record {
@@ -62,7 +69,7 @@ module _ (book : List Float) (n repeat : ℕ) (draws order sizes : List ℕ) (sc
           some = fair .some;
           times = fair .times;
           square = fair .square;
-          read-there = omega arith;
+          stood = record { there = λ e. zero-le; passed = λ e. zero-le; words = zero-le };
           rows = row-below;
         };
         level = omega arith;
@@ -77,18 +84,19 @@ module _ (book : List Float) (n repeat : ℕ) (draws order sizes : List ℕ) (sc
 
   -- what it leaves
   pub run-ran : {a : Top} {order′ sizes′ : List ℕ} {scores′ floats′ : List Float} {wi′ : List ℕ}
-      → RoundLeaves (roundOf book n repeat 32 (take (length order) (front ++ drop n wi)) 0 (drop 0 draws)) n 32 a order order′ sizes sizes′ scores scores′ (front ++ drop n wi) wi′ floats floats′
-      → Ran (runOf book n repeat draws) n a order order′ sizes sizes′ scores scores′ floats floats′ wi wi′
+      → RoundLeaves (roundOf book n repeat 32 (take (length order) (front ++ drop n wi)) 0 (roundGiven src draws book n repeat 32 (take (length order) (front ++ drop n wi)))) n 32 a order order′ sizes sizes′ scores scores′ (front ++ drop n wi) wi′ floats floats′
+      → Ran (runOf book n repeat (drawsOf seeded seed book n repeat draws)) n a order order′ sizes sizes′ scores scores′ floats floats′ wi wi′
   unfolding runOf
   run-ran {a} {order′} {sizes′} {scores′} {floats′} {wi′} h =
-      let g : RoundLeaves (roundOf book n repeat 32 (all n) 0 draws) n 32 a order order′ sizes sizes′ scores scores′ (front ++ drop n wi) wi′ floats floats′ =
+      let ds = drawsOf seeded seed book n repeat draws in
+      let g : RoundLeaves (roundOf book n repeat 32 (all n) 0 (drawsOf seeded seed book n repeat draws)) n 32 a order order′ sizes sizes′ scores scores′ (front ++ drop n wi) wi′ floats floats′ =
       subst
-      (λ (x : List ℕ). RoundLeaves (roundOf book n repeat 32 x 0 draws) n 32 a order order′ sizes sizes′ scores scores′ (front ++ drop n wi) wi′ floats floats′)
+      (λ (x : List ℕ). RoundLeaves (roundOf book n repeat 32 x 0 (roundGiven src draws book n repeat 32 x)) n 32 a order order′ sizes sizes′ scores scores′ (front ++ drop n wi) wi′ floats floats′)
       rows-are h in
       record {
         answer-is = g .answer-is;
         ordered = g .ordered;
-        sized = g .sized ∙ ap (λ (m : ℕ). sizesAfter m (roundOf book n repeat 32 (all n) 0 draws) sizes) (fair .order-long);
+        sized = g .sized ∙ ap (λ (m : ℕ). sizesAfter m (roundOf book n repeat 32 (all n) 0 ds) sizes) (fair .order-long);
         scored = g .scored;
         behind = drop-behind (3 * (32 * n) + n) (workNumbers n) wi′ (front ++ drop n wi) (omega arith) (g .behind) ∙ behind;
         beyond = drop-behind (32 * n + 5 * (n * n)) (workDoubles n) floats′ floats (omega arith) (g .beyond);

@@ -2,6 +2,7 @@
 -- only.
 use Prim.Native.Nat.{ℕ, _*_, _≤_}
 use mathlib.Core.Path.{_≡_}
+use mathlib.Core.Bool.{Bool, cond}
 use mathlib.Core.List.{List}
 use lib.ListN.{length}
 use lib.Ieee.{Float}
@@ -12,6 +13,7 @@ use Rattle.draws.specs.Stops.{stopNumber, stopPlace}
 use Rattle.partition.specs.Partition.{joined}
 use Rattle.partition.specs.Orders.{sizesOf}
 use Rattle.round.specs.Round.{Run, done, ended, roundOf}
+use Rattle.round.specs.Made.{drawsFrom}
 use Rattle.onc_answers.specs.Answers.{Answer, refusing}
 
 -- the lists that a call is lent: four outputs, two to work in
@@ -43,6 +45,10 @@ pub record Limits (book : List Float) (n repeat order sizes scores floats number
 -- the run on a book of n names: at first 32 rounds are left, the rows are 0, 1, .., n - 1, and no draw has been read
 unfoldable pub runOf : List Float → (n repeat : ℕ) → List ℕ → Run
 runOf book n repeat draws = roundOf book n repeat 32 (listed (λ i. i) n) 0 draws
+
+-- the draws of a run: those that the generator of a seed gives along it, or those of the list
+abbrev pub drawsOf : Bool → (seed : ℕ) → List Float → (n repeat : ℕ) → List ℕ → List ℕ
+drawsOf seeded seed book n repeat draws = cond seeded (drawsFrom seed book n repeat) draws
 
 -- what a run answers
 abbrev pub finalOf : Run → Answer

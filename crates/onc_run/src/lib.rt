@@ -4,9 +4,10 @@ ghost use Prim.Native.Nat.{_*_};
 ghost use lib.ListN.{length};
 ghost use Rattle.lists.specs.Lists.{listed};
 ghost use Rattle.onc_answers.specs.Answers.{answerOf};
-ghost use Rattle.onc_run.specs.Run.{Limits, runOf, ran};
+ghost use Rattle.onc_run.specs.Run.{Limits, runOf, drawsOf, ran};
 ghost use Rattle.onc_run.specs.Steps.{Ran};
 use onc_answers::Onc;
+use plusplus_seeded::Source;
 use round_top::Top;
 
 // 0, 1, 2, and so on.
@@ -19,12 +20,26 @@ fn count_up(xs: &mut [usize])
     }
 }
 
-// The rounds, over all names at first; the working lists hold anything afterwards.
+// Where the draws come from, before the first is taken: the list's first place, or the first word of the seed's generator.
+fn first_source(seeded: bool, seed: u64) -> Source
+    ensures { λ r. ⌜ r ≡ record { at = 0; seeded = seeded; seed = seed; taken = 0 } ⌝ }
+{
+    Source {
+        at: 0,
+        seeded,
+        seed,
+        taken: 0,
+    }
+}
+
+// The rounds, over all names at first, by the draws of the list or of a seed; the working lists hold anything afterwards.
 fn run(
     book: &[f64],
     n: usize,
     repeat: usize,
     draws: &[u64],
+    seeded: bool,
+    seed: u64,
     order: &mut [usize],
     sizes: &mut [usize],
     scores: &mut [f64],
@@ -32,16 +47,17 @@ fn run(
     numbers: &mut [usize],
 ) -> Top
     requires { ⌜ Limits (now book) n repeat (length (now order)) (length (now sizes)) (length (now scores)) (length (now floats)) (length (now numbers)) ⌝ }
-    ensures { λ r. ⌜ Ran (runOf (now (book .entry)) n repeat (now (draws .entry))) n r (now (order .entry)) (now (order .exit)) (now (sizes .entry)) (now (sizes .exit))
+    ensures { λ r. ⌜ Ran (runOf (now (book .entry)) n repeat (drawsOf seeded seed (now (book .entry)) n repeat (now (draws .entry)))) n r (now (order .entry)) (now (order .exit)) (now (sizes .entry)) (now (sizes .exit))
         (now (scores .entry)) (now (scores .exit)) (now (floats .entry)) (now (floats .exit)) (now (numbers .entry)) (now (numbers .exit)) ⌝ }
 {
     count_up(&mut numbers[..n]);
+    let src = first_source(seeded, seed);
     round_top::cluster_kmeans_top(
         book,
         n,
         repeat,
         draws,
-        0,
+        src,
         32,
         order,
         sizes,
@@ -57,6 +73,8 @@ pub fn finish(
     n: usize,
     repeat: usize,
     draws: &[u64],
+    seeded: bool,
+    seed: u64,
     order: &mut [usize],
     sizes: &mut [usize],
     scores: &mut [f64],
@@ -76,7 +94,7 @@ pub fn finish(
         numbers = now (numbers .exit);
       };
     }
-        ≡ ran (now (book .entry)) n (runOf (now (book .entry)) n repeat (now (draws .entry))) (record {
+        ≡ ran (now (book .entry)) n (runOf (now (book .entry)) n repeat (drawsOf seeded seed (now (book .entry)) n repeat (now (draws .entry)))) (record {
           order = now (order .entry);
           sizes = now (sizes .entry);
           scores = now (scores .entry);
@@ -90,6 +108,8 @@ pub fn finish(
         n,
         repeat,
         draws,
+        seeded,
+        seed,
         order,
         sizes,
         scores,

@@ -33,17 +33,17 @@ lesser-nan (fin s n e) = refl
 
 module _ (q : ℕ → ℕ → Float) (m : ℕ) where
   -- the weights, in a list, with one centre, and with one more
-  weights-one : (c : ℕ) → listed (q c) m ≡ listed (weightTo q (c ∷ [])) m
+  pub weights-one : (c : ℕ) → listed (q c) m ≡ listed (weightTo q (c ∷ [])) m
   weights-one c = listed-same nan (q c) (weightTo q (c ∷ [])) m (λ i h. sym (lesser-nan (q c i)))
 
-  weights-more : (ws : List Float) (cs : List ℕ) (c : ℕ) → ws ≡ listed (weightTo q cs) m → listed (with q (cells ws) c) m ≡ listed (weightTo q (cs ++ (c ∷ []))) m
+  pub weights-more : (ws : List Float) (cs : List ℕ) (c : ℕ) → ws ≡ listed (weightTo q cs) m → listed (with q (cells ws) c) m ≡ listed (weightTo q (cs ++ (c ∷ []))) m
   weights-more ws cs c e =
       listed-same nan (with q (cells ws) c) (weightTo q (cs ++ (c ∷ []))) m
       (λ i h.
       ap (λ (w : Float). lesserNumber w (q c i)) (ap (λ (l : List Float). cells l i) e ∙ getD-listed (weightTo q cs) m i nan h)
       ∙ sym (foldl-append (λ w p. lesserNumber w (q p i)) nan cs (c ∷ [])))
 
-  total-is : (ws : List Float) (cs : List ℕ) → ws ≡ listed (weightTo q cs) m → sumTo (cells ws) m ≡ sumTo (weightTo q cs) m
+  pub total-is : (ws : List Float) (cs : List ℕ) → ws ≡ listed (weightTo q cs) m → sumTo (cells ws) m ≡ sumTo (weightTo q cs) m
   total-is ws cs e = sum-same (cells ws) (weightTo q cs) m (λ i h. ap (λ (l : List Float). cells l i) e ∙ getD-listed (weightTo q cs) m i nan h)
 
 -- the draw at place p is one of the trials for a centre, `turn` centres more having been chosen behind cs, and not below its limit

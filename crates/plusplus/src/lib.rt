@@ -4,7 +4,9 @@ ghost use Prim.Native.Nat.{_<_, _≤_, _+_, _-_, _*_};
 ghost use lib.ListN.{length, take, drop};
 ghost use Rattle.lists.specs.Lists.{cells, listed};
 ghost use Rattle.draws.specs.Counts.{trialsOf, seedingOf};
+ghost use Rattle.lists.specs.Sums.{sumTo};
 ghost use Rattle.plusplus_pick.specs.Potentials as spec;
+ghost use Rattle.plusplus_pick.specs.Potentials.{RunningSums};
 ghost use Rattle.plusplus_trials.specs.Trials.{table, nextOf, triedOf, Weighed};
 ghost use Rattle.plusplus.specs.Seeding.{centresOf, seeding, Weights, Ready, SeededBy};
 
@@ -25,7 +27,33 @@ fn keep_lesser(weights: &mut [f64], squares: &[f64])
     }
 }
 
-// The best trial's pick becomes a centre.
+// The best trial's pick becomes a centre, by the running weights and their total. Inner form.
+pub fn centre_by_sums(
+    squares: &[f64],
+    weights: &mut [f64],
+    sums: &[f64],
+    total: f64,
+    draws: &[u64],
+    at: usize,
+    count: usize,
+) -> plusplus_trials::Tried
+    requires { ⌜ Weighed (now squares) (now weights) × RunningSums (now sums) (now weights) × (total ≡ sumTo (cells (now weights)) (length (now weights))) ⌝ }
+    requires { ⌜ (2 ≤ count) × (at + count ≤ length (now draws)) ⌝ }
+    ensures { λ r. ⌜ r ≡ triedOf (nextOf (table (now (squares .entry)) (length (now (weights .entry)))) (length (now (weights .entry))) count (now (weights .entry)) at (drop at (now (draws .entry)))) ⌝ }
+    ensures { λ r. ⌜ Weights (table (now (squares .entry)) (length (now (weights .entry)))) (length (now (weights .entry))) (now (weights .entry))
+        (nextOf (table (now (squares .entry)) (length (now (weights .entry)))) (length (now (weights .entry))) count (now (weights .entry)) at (drop at (now (draws .entry)))) (now (weights .exit)) ⌝ }
+{
+    let m = weights.len();
+    match plusplus_trials::best_trial(squares, weights, sums, total, draws, at, count) {
+        plusplus_trials::Tried::Stopped(s) => plusplus_trials::Tried::Stopped(s),
+        plusplus_trials::Tried::Best(b) => {
+            keep_lesser(weights, lists::row_of(squares, m, b.pick));
+            plusplus_trials::Tried::Best(b)
+        }
+    }
+}
+
+// The best trial's pick becomes a centre. `sums` holds anything, before the call and after it.
 fn next_centre(
     squares: &[f64],
     weights: &mut [f64],
@@ -40,14 +68,8 @@ fn next_centre(
     ensures { λ r. ⌜ Weights (table (now (squares .entry)) (length (now (weights .entry)))) (length (now (weights .entry))) (now (weights .entry))
         (nextOf (table (now (squares .entry)) (length (now (weights .entry)))) (length (now (weights .entry))) count (now (weights .entry)) at (drop at (now (draws .entry)))) (now (weights .exit)) ⌝ }
 {
-    let m = weights.len();
-    match plusplus_trials::best_trial(squares, weights, draws, at, count, sums) {
-        plusplus_trials::Tried::Stopped(s) => plusplus_trials::Tried::Stopped(s),
-        plusplus_trials::Tried::Best(b) => {
-            keep_lesser(weights, lists::row_of(squares, m, b.pick));
-            plusplus_trials::Tried::Best(b)
-        }
-    }
+    let total = plusplus_pick::sum_weights(weights, sums);
+    centre_by_sums(squares, weights, sums, total, draws, at, count)
 }
 
 // The centres behind the first, with the draws from place `from` on. The weights are those with the first as centre; `sums` is a list to work in.

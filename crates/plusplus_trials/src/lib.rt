@@ -159,21 +159,20 @@ fn first_trials(
     }
 }
 
-// The best of `count` trials, with the draws from place `at` on. Inner form: the list has so many there. `sums` holds anything, before the
-// call and after it.
+// The best of `count` trials, with the draws from place `at` on, by the running weights and their total. Inner form: the list has so many draws there.
 pub fn best_trial(
     squares: &[f64],
     weights: &[f64],
+    sums: &[f64],
+    total: f64,
     draws: &[u64],
     at: usize,
     count: usize,
-    sums: &mut [f64],
 ) -> Tried
-    requires { ⌜ Weighed (now squares) (now weights) ⌝ }
-    requires { ⌜ (2 ≤ count) × (at + count ≤ length (now draws)) × (length (now sums) ≡ length (now weights)) ⌝ }
+    requires { ⌜ Weighed (now squares) (now weights) × RunningSums (now sums) (now weights) × (total ≡ sumTo (cells (now weights)) (length (now weights))) ⌝ }
+    requires { ⌜ (2 ≤ count) × (at + count ≤ length (now draws)) ⌝ }
     ensures { λ r. ⌜ r ≡ triedOf (nextOf (table (now (squares .entry)) (length (now (weights .entry)))) (length (now (weights .entry))) count (now (weights .entry)) at (drop at (now (draws .entry)))) ⌝ }
 {
-    let total = plusplus_pick::sum_weights(weights, sums);
     match draws::draw_below(draws, at, plusplus_pick::limit(total, weights.len())) {
         draws::Draw::Stopped(s) => Tried::Stopped(s),
         draws::Draw::Value(c) => {

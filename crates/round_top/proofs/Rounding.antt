@@ -24,10 +24,14 @@ use Rattle.round.specs.declared.RoundStart.{RoundStart}
 use Rattle.round.specs.declared.RoundStart.the-variants as roundStart
 use Rattle.row_numbers.specs.Rows.{rowsOf}
 use Rattle.round.specs.Round.{Run, done, ended, Opening, started, unstarted, openingOf, roundOf, needOf, afterInner}
-use Rattle.round.specs.Steps.{RoundStarted, Starts, BaseAt, roundStartOf}
+use Rattle.plusplus_seeded.specs.declared.Source.{Source}
+use Rattle.plusplus_seeded.specs.Sources.{given}
+use Rattle.round.specs.Made.{ownGiven, ownMoved, roundGiven}
+use Rattle.round.specs.Steps.{Stood, RoundStarted, Starts, BaseAt, roundStartOf}
 use Rattle.round_end.specs.Steps.{InnerEnded, RoundEnded}
 use Rattle.round_top.specs.Steps.{Ready, RoundLeaves, topOf, orderAfter, sizesAfter, scoresAfter}
 use Rattle.round.proofs.Runs.{weakIn, OpeningTook, opening-took, Whole, whole, round-none, round-refused, round-kept, round-again}
+use Rattle.round.proofs.Sourced.{laterMade, source-started, source-unstarted, later-again, stood-behind}
 use Rattle.round.proofs.Standing.{stands-state, stands-cut, stands-parted, stands-plain}
 
 pub level-pos : (left : ℕ) → (left ≡ 0 → ⊥) → 1 ≤ left
@@ -46,8 +50,8 @@ map-at f [] j h = absurd (not-suc-le-zero h)
 map-at f (x ∷ l) zero h = refl
 map-at f (x ∷ l) (suc j) h = map-at f l j (le-of-suc-le-suc h)
 
-module _ (book : List Float) (n repeats : ℕ) (draws : List ℕ) (read left : ℕ) (order sizes : List ℕ) (scores : List Float) (wi : List ℕ) (wf : List Float)
-    (R : Ready book n repeats draws read left order sizes scores wi wf) where
+module _ (book : List Float) (n repeats : ℕ) (draws : List ℕ) (src : Source) (left : ℕ) (order sizes : List ℕ) (scores : List Float) (wi : List ℕ) (wf : List Float)
+    (R : Ready book n repeats draws src left order sizes scores wi wf) where
   abbrev m : ℕ
   m = length order
 
@@ -55,10 +59,18 @@ module _ (book : List Float) (n repeats : ℕ) (draws : List ℕ) (read left : �
   rows = take m wi
 
   abbrev O : Opening
-  O = openingOf book n repeats rows read (drop read draws)
+  O = openingOf book n repeats rows (src .at) (ownGiven src draws book n repeats rows)
+
+  -- the source behind its own draws
+  abbrev moved : Source
+  moved = ownMoved src book n repeats rows
+
+  -- the round with so many left, by the draws of the source for it
+  abbrev runWith : ℕ → Run
+  runWith x = roundOf book n repeats x rows (src .at) (roundGiven src draws book n repeats x rows)
 
   abbrev run : Run
-  run = roundOf book n repeats left rows read (drop read draws)
+  run = runWith left
 
   -- the places behind which nothing is touched
   abbrev last-number : ℕ
@@ -69,7 +81,7 @@ module _ (book : List Float) (n repeats : ℕ) (draws : List ℕ) (read left : �
 
   pub none-law : left ≡ 0 → RoundLeaves run n left (Stopped Rounds) order order sizes sizes scores scores wi wi wf wf
   none-law e =
-      rw (round-none book n repeats left rows read (drop read draws) e)
+      rw (round-none book n repeats left rows (src .at) (roundGiven src draws book n repeats left rows) e)
       (record { answer-is = refl; ordered = refl; sized = refl; scored = refl; behind = refl; beyond = refl })
 
   module _ (some : left ≡ 0 → ⊥) where
@@ -82,30 +94,37 @@ module _ (book : List Float) (n repeats : ℕ) (draws : List ℕ) (read left : �
     rows-len : length rows ≡ m
     rows-len = length-take-le m wi (omega (arith, R .reads .items, R .room))
 
+    two-rows : 2 ≤ length rows
+    two-rows = omega (arith, rows-len, R .reads .two)
+
+    -- the draws of the source for this round
+    abbrev given-draws : List ℕ
+    given-draws = roundGiven src draws book n repeats (suc (left - 1)) rows
+
     few : m ≤ 256
     few = omega (arith, R .reads .items, R .reads .few)
 
     -- once the round has begun
-    module _ (a₁ : RoundStart) (wi₁ : List ℕ) (wf₁ : List Float) (B : RoundStarted O n m left (read + needOf repeats m) a₁ wi wi₁ wf wf₁) where
+    module _ (a₁ : RoundStart) (wi₁ : List ℕ) (wf₁ : List Float) (B : RoundStarted O n m left moved a₁ wi wi₁ wf wf₁) where
       behind-number : drop last-number wi₁ ≡ drop last-number wi
       behind-number = drop-behind (4 * n) last-number wi₁ wi (omega (arith, size)) (B .behind)
 
-      of-refused : (o : Opening) (s : Stop) → O ≡ o → roundStart.Stopped s ≡ roundStartOf (read + needOf repeats m) o
+      of-refused : (o : Opening) (s : Stop) → O ≡ o → roundStart.Stopped s ≡ roundStartOf moved o
           → RoundLeaves run n left (Stopped s) order order sizes sizes scores scores wi wi₁ wf wf₁
       of-refused (started base rest) s e a = let z : _≡_ {A = ℕ} 0 1 = cc in absurd (omega arith)
       of-refused (unstarted q ms) s e a =
           let z : q ≡ s = cc in
           let r : run ≡ ended s ms =
-          ap (λ (x : ℕ). roundOf book n repeats x rows read (drop read draws)) is-suc
-          ∙ round-refused book n repeats (left - 1) rows read (drop read draws) q ms e
+          ap runWith is-suc
+          ∙ round-refused book n repeats (left - 1) rows (src .at) given-draws q ms (source-unstarted book n repeats (left - 1) rows two-rows src draws q ms e)
           ∙ ap (λ (x : Stop). ended x ms) z in
           rw r (record { answer-is = refl; ordered = refl; sized = refl; scored = refl; behind = behind-number; beyond = B .beyond })
 
       pub refused-law : (s : Stop) → a₁ ≡ roundStart.Stopped s → RoundLeaves run n left (Stopped s) order order sizes sizes scores scores wi wi₁ wf wf₁
       refused-law s e = of-refused O s refl (sym e ∙ B .answer-is)
 
-      -- what is known of a round that has started: its base of `groups` groups, `weak` of them weak, with w items, and a draws read
-      pub record Started (groups weak w a : ℕ) : Type 0 where
+      -- what is known of a round that has started: its base of `groups` groups, `weak` of them weak, with w items; a is the source behind its draws
+      pub record Started (groups weak w : ℕ) (a : Source) : Type 0 where
         pub base : State
         pub rest : List ℕ
         pub opened : O ≡ started base rest
@@ -113,21 +132,20 @@ module _ (book : List Float) (n repeats : ℕ) (draws : List ℕ) (read left : �
         pub count : groups ≡ length (base .groups)
         pub weak-is : weak ≡ weakIn base
         pub items-are : w ≡ length (weakItems base)
-        pub told : a ≡ read + needOf repeats m
-        pub rest-is : rest ≡ drop a draws
-        pub enough : a ≤ length draws
+        pub told : a ≡ moved
+        pub stood : Stood a draws (left - 1)
         pub rows-kept : take m wi₁ ≡ rows
         pub base-at : BaseAt n m base wi₁ wf₁
         pub rows-at : part (3 * n) w wi₁ ≡ rowsOf rows (weakItems base)
 
-      of-started : (o : Opening) (groups weak w a : ℕ) → O ≡ o → roundStart.Base groups weak w a ≡ roundStartOf (read + needOf repeats m) o
-          → OpeningTook (needOf repeats m) (drop read draws) m o → Starts o n m rows wi₁ wf₁ → Started groups weak w a
+      of-started : (o : Opening) (groups weak w : ℕ) (a : Source) → O ≡ o → roundStart.Base groups weak w a ≡ roundStartOf moved o
+          → OpeningTook (needOf repeats m) (ownGiven src draws book n repeats rows) m o → Starts o n m rows wi₁ wf₁ → Started groups weak w a
       of-started (unstarted q ms) groups weak w a e b t s = let z : _≡_ {A = ℕ} 0 1 = cc in absurd (omega arith)
       of-started (started base rest) groups weak w a e b t s =
           let eg : groups ≡ length (base .groups) = cc in
           let ek : weak ≡ weakIn base = cc in
           let ew : w ≡ length (weakItems base) = cc in
-          let ea : a ≡ read + needOf repeats m = cc in
+          let ea : a ≡ moved = cc in
           record {
             base = base;
             rest = rest;
@@ -137,32 +155,39 @@ module _ (book : List Float) (n repeats : ℕ) (draws : List ℕ) (read left : �
             weak-is = ek;
             items-are = ew;
             told = ea;
-            rest-is = t .2 ∙ drop-drop (needOf repeats m) read draws ∙ ap (λ (x : ℕ). drop x draws) (sym ea);
-            enough = omega (arith, t .3, length-drop read draws, R .reads .read-there, ea);
+            stood =
+                rw ea (stood-behind book n repeats rows src draws left (R .reads .stood) (level-pos left some) (R .level) (omega (arith, two-rows)) (omega (arith, rows-len, few))
+                (R .reads .times) (subst (λ (x : ℕ). needOf repeats x ≤ length (ownGiven src draws book n repeats rows)) (sym rows-len) (t .3)));
             rows-kept = s .0;
             base-at = s .1;
             rows-at = ap (λ (x : ℕ). part (3 * n) x wi₁) ew ∙ s .2;
           }
 
-      pub started-law : (groups weak w a : ℕ) → a₁ ≡ roundStart.Base groups weak w a → Started groups weak w a
+      pub started-law : (groups weak w : ℕ) (a : Source) → a₁ ≡ roundStart.Base groups weak w a → Started groups weak w a
       started-law groups weak w a e =
-          let two : 2 ≤ length rows = omega (arith, rows-len, R .reads .two) in
+          let ds = ownGiven src draws book n repeats rows in
           of-started O groups weak w a refl (sym e ∙ B .answer-is)
-          (subst (λ (x : ℕ). OpeningTook (needOf repeats x) (drop read draws) x O) rows-len (opening-took book n repeats rows read (drop read draws) two)) (B .starts)
+          (subst (λ (x : ℕ). OpeningTook (needOf repeats x) ds x O) rows-len (opening-took book n repeats rows (src .at) ds two-rows)) (B .starts)
 
-      module _ (groups weak w a : ℕ) (S : Started groups weak w a) where
+      module _ (groups weak w : ℕ) (a : Source) (S : Started groups weak w a) where
+        -- the draws behind the start
+        abbrev later : List ℕ
+        later = given moved draws (laterMade book n repeats (left - 1) rows two-rows src draws (started (S .base) []))
+
+        opens : openingOf book n repeats rows (src .at) given-draws ≡ started (S .base) later
+        opens = source-started book n repeats (left - 1) rows two-rows src draws (S .base) (S .rest) (S .opened)
+
         pub kept-law : (order′ sizes′ : List ℕ) (scores′ : List Float) → weak ≤ 2 → order′ ≡ part n m wi₁ → sizes′ ≡ part (2 * n) m wi₁ → scores′ ≡ take m wf₁
-            → RoundLeaves run n left (Done groups a) order order′ sizes sizes′ scores scores′ wi wi₁ wf wf₁
+            → RoundLeaves run n left (Done groups (a .at)) order order′ sizes sizes′ scores scores′ wi wi₁ wf wf₁
         kept-law order′ sizes′ scores′ h eo ez es =
             let b = S .base in
             let less : weakIn (S .base) ≤ 2 = omega (arith, h, S .weak-is) in
-            let r : run ≡ done (S .base) (m ∷ []) a (S .rest) =
-            ap (λ (x : ℕ). roundOf book n repeats x rows read (drop read draws)) is-suc
-            ∙ round-kept book n repeats (left - 1) rows read (drop read draws) (S .base) (S .rest) (S .opened) less
-            ∙ ap (λ (x : ℕ). done (S .base) (x ∷ []) (read + needOf repeats x) (S .rest)) rows-len
-            ∙ ap (λ (x : ℕ). done (S .base) (m ∷ []) x (S .rest)) (sym (S .told)) in
+            let r : run ≡ done (S .base) (m ∷ []) (a .at) later =
+            ap runWith is-suc ∙ round-kept book n repeats (left - 1) rows (src .at) given-draws (S .base) later opens less
+            ∙ ap (λ (x : ℕ). done (S .base) (x ∷ []) (moved .at) later) rows-len
+            ∙ ap (λ (x : Source). done (S .base) (m ∷ []) (x .at) later) (sym (S .told)) in
             rw r (record {
-              answer-is = ap (λ (x : ℕ). Done x a) (S .count);
+              answer-is = ap (λ (x : ℕ). Done x (a .at)) (S .count);
               ordered = eo ∙ S .base-at .order-at;
               sized = ez ∙ S .base-at .sizes-at;
               scored = es ∙ S .base-at .scores-at;
@@ -222,7 +247,7 @@ module _ (book : List Float) (n repeats : ℕ) (draws : List ℕ) (read left : �
                   some = R .reads .some;
                   times = R .reads .times;
                   square = R .reads .square;
-                  read-there = S .enough;
+                  stood = S .stood;
                   rows = λ j h. row-below j (omega (arith, h, in-len));
                 };
                 level = omega (arith, R .level);
@@ -236,7 +261,7 @@ module _ (book : List Float) (n repeats : ℕ) (draws : List ℕ) (read left : �
           inner-rows = take (length (take w order)) wi₂
 
           abbrev inner : Run
-          inner = roundOf book n repeats (left - 1) inner-rows a (drop a draws)
+          inner = roundOf book n repeats (left - 1) inner-rows (a .at) (roundGiven a draws book n repeats (left - 1) inner-rows)
 
           inner-rows-len : length inner-rows ≡ w
           inner-rows-len =
@@ -250,13 +275,13 @@ module _ (book : List Float) (n repeats : ℕ) (draws : List ℕ) (read left : �
           run-is : run ≡ after inner
           run-is =
               let many : 2 < weakIn (S .base) = omega (arith, more, S .weak-is) in
-              ap (λ (x : ℕ). roundOf book n repeats x rows read (drop read draws)) is-suc
-              ∙ round-again book n repeats (left - 1) rows read (drop read draws) (S .base) (S .rest) (S .opened) many
-              ∙ ap (λ (x : ℕ). afterInner (distAt book n rows) x (S .base) (roundOf book n repeats (left - 1) (rowsOf rows (weakItems (S .base))) (read + needOf repeats x) (S .rest))) rows-len
-              ∙ ap (λ (x : ℕ). after (roundOf book n repeats (left - 1) (rowsOf rows (weakItems (S .base))) x (S .rest))) (sym (S .told))
-              ∙ ap (λ (x : List ℕ). after (roundOf book n repeats (left - 1) (rowsOf rows (weakItems (S .base))) a x)) (S .rest-is)
-              ∙ ap (λ (x : List ℕ). after (roundOf book n repeats (left - 1) x a (drop a draws))) (sym front-rows)
-              ∙ ap (λ (x : ℕ). after (roundOf book n repeats (left - 1) (take x wi₂) a (drop a draws))) (sym in-len)
+              let weak-rows = rowsOf rows (weakItems (S .base)) in
+              ap runWith is-suc ∙ round-again book n repeats (left - 1) rows (src .at) given-draws (S .base) later opens many
+              ∙ ap (λ (x : ℕ). afterInner (distAt book n rows) x (S .base) (roundOf book n repeats (left - 1) weak-rows (moved .at) later)) rows-len
+              ∙ ap (λ (x : List ℕ). after (roundOf book n repeats (left - 1) weak-rows (moved .at) x)) (later-again book n repeats (left - 1) rows two-rows src draws (S .base) many)
+              ∙ ap (λ (x : Source). after (roundOf book n repeats (left - 1) weak-rows (x .at) (roundGiven x draws book n repeats (left - 1) weak-rows))) (sym (S .told))
+              ∙ ap (λ (x : List ℕ). after (roundOf book n repeats (left - 1) x (a .at) (roundGiven a draws book n repeats (left - 1) x))) (sym front-rows)
+              ∙ ap (λ (x : ℕ). after (roundOf book n repeats (left - 1) (take x wi₂) (a .at) (roundGiven a draws book n repeats (left - 1) (take x wi₂)))) (sym in-len)
 
           -- the inner round has come back
           module _ (b : Top) (lo lz : List ℕ) (ls : List Float) (wi₃ : List ℕ) (wf₃ : List Float)
@@ -365,7 +390,7 @@ module _ (book : List Float) (n repeats : ℕ) (draws : List ℕ) (read left : �
             pub inner-law : (g last : ℕ) → b ≡ Done g last → Inner g last
             inner-law g last eb =
                 let two : 2 ≤ length inner-rows = omega (arith, inner-rows-len, w-many) in
-                of-done inner g last refl (subst (λ (x : ℕ). Whole x inner) inner-rows-len (whole book n repeats (left - 1) inner-rows a (drop a draws) two)) eb (I .answer-is) (I .ordered) (I .sized)
+                of-done inner g last refl (subst (λ (x : ℕ). Whole x inner) inner-rows-len (whole book n repeats (left - 1) inner-rows (a .at) (roundGiven a draws book n repeats (left - 1) inner-rows) two)) eb (I .answer-is) (I .ordered) (I .sized)
 
             module _ (g last : ℕ) (N : Inner g last) where
               improvable : Improvable m groups (part n m wi₄) (part (2 * n) m wi₄) (take m wf₄) (weakItems state₄) g (take w order₂) (take w sizes₂)

@@ -6,6 +6,7 @@ use lib.ListN.{length, drop}
 use lib.Ieee.{Float}
 use Rattle.partition.specs.Partition.{joined}
 use Rattle.partition.specs.Orders.{sizesOf}
+use Rattle.plusplus_seeded.specs.declared.Source.{Source}
 use Rattle.round.specs.Round.{Run, done, ended}
 use Rattle.round.specs.Steps.{RoundInput}
 use Rattle.round_top.specs.declared.Top.{Top}
@@ -29,8 +30,8 @@ scoresAfter (done s ms read rest) old = s .scores
 scoresAfter (ended s ms) old = old
 
 -- what a round asks
-pub record Ready (book : List Float) (n repeats : ℕ) (draws : List ℕ) (read left : ℕ) (order sizes : List ℕ) (scores : List Float) (wi : List ℕ) (wf : List Float) : Type 0 where
-  pub reads : RoundInput book n (length order) repeats draws read wi
+pub record Ready (book : List Float) (n repeats : ℕ) (draws : List ℕ) (src : Source) (left : ℕ) (order sizes : List ℕ) (scores : List Float) (wi : List ℕ) (wf : List Float) : Type 0 where
+  pub reads : RoundInput book n (length order) repeats draws src left wi
   pub level : left ≤ 32
   pub same-sizes : length sizes ≡ length order
   pub same-scores : length scores ≡ length order

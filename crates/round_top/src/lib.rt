@@ -1,10 +1,12 @@
 // A round: its start, the re-clustering of its weak items, which is the whole round again on a book of their own, and the choice between the
 // two partitions. Inner form, for the public call.
 ghost use Prim.Native.Nat.{_*_};
-ghost use lib.ListN.{length, take, drop};
+ghost use lib.ListN.{length, take};
 ghost use Rattle.round.specs.Round.{roundOf};
+ghost use Rattle.round.specs.Made.{roundGiven};
 ghost use Rattle.round_top.specs.Steps.{Ready, RoundLeaves};
 use draws::Stop;
+use plusplus_seeded::Source;
 use round::RoundStart;
 
 // How many groups, and the draws read; or what ends the run.
@@ -21,7 +23,7 @@ pub fn cluster_kmeans_top(
     n: usize,
     repeat: usize,
     draws: &[u64],
-    read: usize,
+    src: Source,
     left: usize,
     order: &mut [usize],
     sizes: &mut [usize],
@@ -29,8 +31,9 @@ pub fn cluster_kmeans_top(
     wi: &mut [usize],
     wf: &mut [f64],
 ) -> Top
-    requires { ⌜ Ready (now book) n repeat (now draws) read left (now order) (now sizes) (now scores) (now wi) (now wf) ⌝ }
-    ensures { λ r. ⌜ RoundLeaves (roundOf (now (book .entry)) n repeat left (take (length (now (order .entry))) (now (wi .entry))) read (drop read (now (draws .entry)))) n left r
+    requires { ⌜ Ready (now book) n repeat (now draws) src left (now order) (now sizes) (now scores) (now wi) (now wf) ⌝ }
+    ensures { λ r. ⌜ RoundLeaves (roundOf (now (book .entry)) n repeat left (take (length (now (order .entry))) (now (wi .entry))) (src .at)
+        (roundGiven src (now (draws .entry)) (now (book .entry)) n repeat left (take (length (now (order .entry))) (now (wi .entry))))) n left r
         (now (order .entry)) (now (order .exit)) (now (sizes .entry)) (now (sizes .exit)) (now (scores .entry)) (now (scores .exit))
         (now (wi .entry)) (now (wi .exit)) (now (wf .entry)) (now (wf .exit)) ⌝ }
 {
@@ -38,12 +41,12 @@ pub fn cluster_kmeans_top(
         return Top::Stopped(Stop::Rounds);
     }
     let m = order.len();
-    match round::start_round(book, n, m, repeat, draws, read, left, &mut *wi, &mut *wf) {
+    match round::start_round(book, n, m, repeat, draws, src, left, &mut *wi, &mut *wf) {
         RoundStart::Stopped(s) => Top::Stopped(s),
         RoundStart::Base(groups, weak, w, after) => {
             if weak <= 2 {
                 round_lists::keep(n, order, sizes, scores, &wi[..], &wf[..]);
-                return Top::Done(groups, after);
+                return Top::Done(groups, after.at);
             }
             let below = 3 * n;
             match cluster_kmeans_top(

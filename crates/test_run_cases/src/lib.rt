@@ -1,5 +1,5 @@
 // A recorded run of the grouping: the case in the text, and whether an answer and its outputs are as recorded. Inner forms, for
-// `test_runs`, whose first lines say how a case stands in the text.
+// `test_runs` and `test_seeds`, whose first lines say how a case stands in the text.
 ghost use Prim.Native.Nat.{_<_, _≤_};
 ghost use mathlib.Core.Path.{_≡_};
 ghost use mathlib.Core.List.{[], _∷_};

@@ -1,12 +1,21 @@
 //! A call of the grouping, and what it must answer: refusals by the table, the rest by the unchanged Rust.
 use kmeans_harness::books::matrix;
 use kmeans_harness::leaf::{floats_for, numbers_for};
-use openquant::onc::{get_onc_clusters_with_seed, OncError};
+use openquant::onc::{get_onc_clusters, get_onc_clusters_with_seed, OncError, OncResult};
 use openquant::onc_leaf::open::DMatrix;
 use rand::{install, Control, Signal, Source};
 use std::panic::{catch_unwind, AssertUnwindSafe};
 
+/// Where a call takes its draws: from its list, from the generator of a seed, or from that of the seed 42, which `get_onc_clusters` does not name.
+#[derive(Clone, Copy, PartialEq, Eq)]
+pub enum By {
+    Draws,
+    Seed(u64),
+    DefaultSeed,
+}
+
 /// A call: a book, its sizes, repeats and draws, and the lengths of the lists that are lent: order, sizes, scores, ordered, floats, numbers, answer.
+/// A call by a seed has no draws.
 #[derive(Clone)]
 pub struct Call {
     pub book: Vec<f64>,
@@ -14,13 +23,19 @@ pub struct Call {
     pub cols: usize,
     pub repeat: usize,
     pub draws: Vec<u64>,
+    pub by: By,
     pub lent: [usize; 7],
 }
 
 impl Call {
     pub fn proper(book: Vec<f64>, n: usize, repeat: usize, draws: Vec<u64>) -> Call {
         let lent = [n, n, n, n * n, floats_for(n), numbers_for(n), 4];
-        Call { book, rows: n, cols: n, repeat, draws, lent }
+        Call { book, rows: n, cols: n, repeat, draws, by: By::Draws, lent }
+    }
+    /// The same call with its draws taken so; by a seed it has no list of them.
+    pub fn taking(&self, by: By) -> Call {
+        let draws = if by == By::Draws { self.draws.clone() } else { vec![] };
+        Call { book: self.book.clone(), draws, by, ..*self }
     }
 }
 
@@ -46,9 +61,24 @@ pub fn bits(x: f64) -> u64 {
 
 /// The unchanged Rust on a book, with draws from the source and at most 32 rounds.
 pub fn by_rust(book: &[f64], n: usize, repeat: usize, source: Source, seed: u64) -> (Answer, Control) {
+    answered(book, n, repeat, source, |rows| get_onc_clusters_with_seed(rows, repeat, seed))
+}
+
+/// The unchanged Rust on a call within the limits.
+pub fn rust_of(call: &Call) -> (Answer, Control) {
+    let (book, n, repeat) = (&call.book, call.rows, call.repeat);
+    match call.by {
+        By::Draws => by_rust(book, n, repeat, Source::List(call.draws.clone()), 0),
+        By::Seed(seed) => by_rust(book, n, repeat, Source::Seeded, seed),
+        By::DefaultSeed => answered(book, n, repeat, Source::Seeded, |rows| get_onc_clusters(rows, repeat)),
+    }
+}
+
+/// What one of the Rust's calls gives for a book.
+fn answered(book: &[f64], n: usize, repeat: usize, source: Source, run: impl FnOnce(&DMatrix<f64>) -> Result<OncResult, OncError>) -> (Answer, Control) {
     let rows = matrix(book, n);
     install(Control::new(source, repeat as u64, 32));
-    let run = catch_unwind(AssertUnwindSafe(|| get_onc_clusters_with_seed(&rows, repeat, seed)));
+    let run = catch_unwind(AssertUnwindSafe(|| run(&rows)));
     let control = install(Control::plain());
     let answer = match run {
         Ok(Ok(found)) => {
@@ -118,7 +148,7 @@ pub fn expected(call: &Call) -> Answer {
             }
             refusal(number, 0, false)
         }
-        None => by_rust(&call.book, call.rows, call.repeat, Source::List(call.draws.clone()), 0).0,
+        None => rust_of(call).0,
     }
 }
 

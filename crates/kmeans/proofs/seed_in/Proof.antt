@@ -1,44 +1,29 @@
-use Prim.Native.Nat.{_+_}
-use mathlib.Core.Path.{refl}
 use native.Mathlib.Omega.{arith}
-use native.Mathlib.Nat.{mul-le-mul}
 use lib.ListN.{drop, length}
 use borrow.Author.Needs.{needs}
-use Rattle.draws.specs.Counts.{seedingOf}
 use Rattle.distance_columns.specs.Pair.{squaredAt}
 use Rattle.distance_columns.specs.Columns.{pointsAt}
-use Rattle.plusplus.proofs.Turns.{seeded-same}
-use Rattle.plusplus.proofs.Same.{seeding-matrix}
-use Rattle.kmeans.proofs.Fronts.{third-area, third-ready}
+use Rattle.plusplus.specs.Seeding.{seeding}
+use Rattle.kmeans.proofs.Sourced.{list-supplies, no-rng, seeded-done, seeded-stopped}
 use Rattle.kmeans.proofs.seed_in.Statement.{statement}
 use Rattle.kmeans.proofs.seed_in.Tie as tie
 
-mul-third : tie.Need-mul-third
-mul-third c = omega (arith, mul-le-mul (c .before .before .before .before .pre .0 .few) (c .before .before .before .before .pre .0 .few))
+rng-buffer-requires : tie.Need-rng-buffer-requires
+rng-buffer-requires c κs = search needs
 
-mul-third-2 : tie.Need-mul-third-2
-mul-third-2 c = omega (arith, mul-le-mul (c .before .before .before .before .pre .0 .few) (c .before .before .before .before .pre .0 .few))
+slice-aggregate-seed-by-in : tie.Need-slice-aggregate-seed-by-in
+slice-aggregate-seed-by-in c = search needs
 
-mul-end : tie.Need-mul-end
-mul-end c = omega (arith, mul-le-mul (c .before .before .before .before .pre .0 .few) (c .before .before .before .before .pre .0 .few))
+seed-by-in-requires : tie.Need-seed-by-in-requires
+seed-by-in-requires c κs =
+    let s = c .before .before .before .before .before .before .before .before in
+    (s .pre .0, list-supplies (s .args .m) (length (s .args .centres .now)) (s .args .draws .now) (s .args .at) (s .pre .0 .few) (omega (arith, s .good)) (s .pre .1), s .pre .2, λ e. no-rng e)
 
-mul-end-2 : tie.Need-mul-end-2
-mul-end-2 c = omega (arith, mul-le-mul (c .before .before .before .before .pre .0 .few) (c .before .before .before .before .pre .0 .few))
+enum-known-s : tie.Need-enum-known-s
+enum-known-s c = search needs
 
-mul-seed : tie.Need-mul-seed
-mul-seed c = omega (arith, mul-le-mul (c .before .before .before .before .pre .0 .few) (c .before .before .before .before .pre .0 .few))
-
-sub-seed : tie.Need-sub-seed
-sub-seed c = omega arith
-
-part-seed-start : tie.Need-part-seed-start
-part-seed-start c = omega (arith, c .before .before .before .before .pre .0 .size)
-
-part-seed-end : tie.Need-part-seed-end
-part-seed-end c = omega (arith, c .before .before .before .before .pre .0 .size)
-
-seed-requires : tie.Need-seed-requires
-seed-requires c κs = rw (c .before .before .before .before .before .before .before .pre .2) (third-ready (c .before .before .before .before .before .before .before .args .area .now) (c .before .before .before .before .before .before .before .args .m) (c .before .before .before .before .before .before .before .pre .0) _ _ _ (c .before .before .before .before .before .before .before .pre .1))
+enum-known-next : tie.Need-enum-known-next
+enum-known-next c = search needs
 
 same-length : tie.Need-same-length
 same-length c = search needs
@@ -48,25 +33,34 @@ same-length-2 c = search needs
 
 returns : tie.Need-returns
 returns c =
-    let a = c .before .before .before .before .before .before .before .before .before .before .before .before .args .area .now in
-    let m = c .before .before .before .before .before .before .before .before .before .before .before .before .args .m in
-    let k = length (c .before .before .before .before .before .before .before .before .before .before .before .before .args .centres .now) in
-    let ds = drop (c .before .before .before .before .before .before .before .before .before .before .before .before .args .at) (c .before .before .before .before .before .before .before .before .before .before .before .before .args .draws .now) in
-    seeded-same _ _ _ (c .before .before .before .before .before .before .before .before .before .before .before .before .args .at + seedingOf k) _ _ (seeding-matrix (squaredAt (pointsAt a m) m) m k (c .before .before .before .before .before .before .before .before .before .before .before .before .args .at) ds (c .before .before .before .before .before .before .before .before .before .before .before .before .pre .0 .some) (third-area a m (c .before .before .before .before .before .before .before .before .before .before .before .before .pre .0))) refl (rw (c .before .before .before .before .before .before .before .before .before .before .before .before .pre .2) at (c .before .before .before .before .seed .ensures))
+    let s = c .before .before .before .before .before .before .before .before .before .before .before .before .before .before .before .before .before in
+    let m = s .args .m in
+    seeded-stopped (seeding (squaredAt (pointsAt (s .args .area .now) m) m) m (length (s .args .centres .now)) (s .args .at) (drop (s .args .at) (s .args .draws .now))) (rw (c .before .s .given .1) at (c .before .before .before .before .before .before .before .before .seed-by-in .ensures .0))
+
+same-length-3 : tie.Need-same-length-3
+same-length-3 c = search needs
+
+same-length-4 : tie.Need-same-length-4
+same-length-4 c = search needs
+
+returns-2 : tie.Need-returns-2
+returns-2 c =
+    let s = c .before .before .before .before .before .before .before .before .before .before .before .before .before .before .before .before .before in
+    let m = s .args .m in
+    seeded-done (seeding (squaredAt (pointsAt (s .args .area .now) m) m) m (length (s .args .centres .now)) (s .args .at) (drop (s .args .at) (s .args .draws .now))) (rw (c .before .next .given .1) at (c .before .before .before .before .before .before .before .before .seed-by-in .ensures .0))
 
 pub seed-in-spec : {M : Type 1} → statement M
 seed-in-spec =
     tie.close
     (tie.spec
-    mul-third
-    mul-third-2
-    mul-end
-    mul-end-2
-    mul-seed
-    sub-seed
-    part-seed-start
-    part-seed-end
-    seed-requires
+    rng-buffer-requires
+    slice-aggregate-seed-by-in
+    seed-by-in-requires
+    enum-known-s
+    enum-known-next
     same-length
     same-length-2
-    returns)
+    returns
+    same-length-3
+    same-length-4
+    returns-2)

@@ -126,7 +126,7 @@ part-cluster-kmeans-top-end : (t : ℕ) → cluster-kmeans-top-lts.Need-part-clu
 part-cluster-kmeans-top-end t c = search needs
 
 mul-cluster-kmeans-top-2 : (t : ℕ) → cluster-kmeans-top-lts.Need-mul-cluster-kmeans-top-2 (calls t) (cluster-kmeans-top-at t) cluster-kmeans-top.Post
-mul-cluster-kmeans-top-2 t c = search needs
+mul-cluster-kmeans-top-2 t c = omega (arith, c .before .before .before .before .before .before .before .before .before .before .before .before .before .before .before .before .before .before .before .before .before .before .before .pre .1 .reads .few)
 
 sub-cluster-kmeans-top-3 : (t : ℕ) → cluster-kmeans-top-lts.Need-sub-cluster-kmeans-top-3 (calls t) (cluster-kmeans-top-at t) cluster-kmeans-top.Post
 sub-cluster-kmeans-top-3 t c =

@@ -1,6 +1,6 @@
 //! The functions of the proved archives, and a call of the grouping with all that it writes.
 use crate::certain::Certain;
-use grouping_harness::call::{bits, Answer, Call};
+use grouping_harness::call::{bits, Answer, By, Call};
 use kmeans_harness::leaf::{floats_for, numbers_for};
 use kmeans_harness::lent::Lent;
 use kmeans_harness::random::Random;
@@ -15,6 +15,49 @@ extern "C" {
         repeat: usize,
         draws: *const u64,
         draws_len: usize,
+        order: *mut usize,
+        order_len: usize,
+        sizes: *mut usize,
+        sizes_len: usize,
+        scores: *mut f64,
+        scores_len: usize,
+        ordered: *mut f64,
+        ordered_len: usize,
+        floats: *mut f64,
+        floats_len: usize,
+        numbers: *mut usize,
+        numbers_len: usize,
+        answer: *mut usize,
+        answer_len: usize,
+    ) -> usize;
+    fn onc_get_onc_clusters_with_seed(
+        book: *const f64,
+        book_len: usize,
+        rows: usize,
+        cols: usize,
+        repeat: usize,
+        seed: u64,
+        order: *mut usize,
+        order_len: usize,
+        sizes: *mut usize,
+        sizes_len: usize,
+        scores: *mut f64,
+        scores_len: usize,
+        ordered: *mut f64,
+        ordered_len: usize,
+        floats: *mut f64,
+        floats_len: usize,
+        numbers: *mut usize,
+        numbers_len: usize,
+        answer: *mut usize,
+        answer_len: usize,
+    ) -> usize;
+    fn onc_get_onc_clusters(
+        book: *const f64,
+        book_len: usize,
+        rows: usize,
+        cols: usize,
+        repeat: usize,
         order: *mut usize,
         order_len: usize,
         sizes: *mut usize,
@@ -83,29 +126,38 @@ extern "C" {
 unsafe fn grouping(call: &Call, book: *const u64, draws: *const u64, lists: [*mut u64; 7]) -> usize {
     let [order, sizes, scores, ordered, floats, numbers, answer] = lists;
     let lent = call.lent;
-    onc_get_onc_clusters_with_draws(
-        book.cast(),
-        call.book.len(),
-        call.rows,
-        call.cols,
-        call.repeat,
-        draws,
-        call.draws.len(),
-        order.cast(),
-        lent[0],
-        sizes.cast(),
-        lent[1],
-        scores.cast(),
-        lent[2],
-        ordered.cast(),
-        lent[3],
-        floats.cast(),
-        lent[4],
-        numbers.cast(),
-        lent[5],
-        answer.cast(),
-        lent[6],
-    )
+    // the call of this name, with what it takes for its draws
+    macro_rules! called {
+        ($name:ident, $($draws:expr),*) => {
+            $name(
+                book.cast(),
+                call.book.len(),
+                call.rows,
+                call.cols,
+                call.repeat,
+                $($draws,)*
+                order.cast(),
+                lent[0],
+                sizes.cast(),
+                lent[1],
+                scores.cast(),
+                lent[2],
+                ordered.cast(),
+                lent[3],
+                floats.cast(),
+                lent[4],
+                numbers.cast(),
+                lent[5],
+                answer.cast(),
+                lent[6],
+            )
+        };
+    }
+    match call.by {
+        By::Draws => called!(onc_get_onc_clusters_with_draws, draws, call.draws.len()),
+        By::Seed(seed) => called!(onc_get_onc_clusters_with_seed, seed),
+        By::DefaultSeed => called!(onc_get_onc_clusters,),
+    }
 }
 
 /// Lists that hold anything, lent once or again and again.
@@ -127,6 +179,15 @@ impl Lists {
     pub fn hold(&self, want: &Answer) -> bool {
         self.told() == want.told && want.outputs.as_ref().is_none_or(|lists| (0..4).all(|i| cells(&self.0[i], i > 1) == lists[i]))
     }
+}
+
+/// What of two calls on equal lists differs, in words: the number returned, or what a list then holds, bit for bit.
+pub fn apart(one: &Call, other: &Call) -> Vec<String> {
+    let mut lists = [Lists::new(one), Lists::new(other)];
+    let numbers = [lists[0].run(one), lists[1].run(other)];
+    let names = ["order", "sizes", "scores", "matrix", "working doubles", "working numbers", "answer"];
+    let unlike = names.iter().enumerate().filter(|&(i, _)| lists[0].0[i] != lists[1].0[i]).map(|(_, name)| format!("{name} of the two unlike"));
+    (numbers[0] != numbers[1]).then(|| format!("returned {} and {}", numbers[0], numbers[1])).into_iter().chain(unlike).collect()
 }
 
 /// Cells as they are compared: of doubles their bits, all NaNs as one.

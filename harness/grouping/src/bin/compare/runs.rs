@@ -1,8 +1,9 @@
-//! Whole runs on made-up books: each with the draws of a seeded run, with hostile lists of draws, and with lists or sizes that are wrong.
+//! Whole runs on made-up books: each by a seed, with the draws of that seeded run, with hostile lists of draws, and with lists or sizes that are
+//! wrong.
 use crate::certain::Certain;
-use crate::library::differences;
+use crate::library::{apart, differences};
 use grouping_harness::books::{named, of_kind};
-use grouping_harness::call::{by_rust, expected, Answer, Call};
+use grouping_harness::call::{by_rust, expected, Answer, By, Call};
 use kmeans_harness::draws::limit;
 use kmeans_harness::random::Random;
 use rand::Source;
@@ -14,6 +15,9 @@ struct Counts {
     books: BTreeMap<(&'static str, String), usize>,
     calls: BTreeMap<(&'static str, String), (usize, usize)>,
     compared: usize,
+    /// Of those compared, the ones by a seed and the ones of `get_onc_clusters`.
+    by_seed: usize,
+    without: usize,
     differ: usize,
     certain: Certain,
 }
@@ -25,13 +29,19 @@ impl Counts {
     /// Compares a call with what it must answer.
     fn add(&mut self, r: &mut Random, call: &Call, want: &Answer, kind: &str) {
         let found = differences(r, call, want, &mut self.certain);
+        self.note(call, want.told[0], found, kind);
+    }
+    /// Counts a call that must answer a number, and what of it differs.
+    fn note(&mut self, call: &Call, number: usize, found: Vec<String>, kind: &str) {
         let wrong = usize::from(!found.is_empty());
         self.compared += 1;
+        self.by_seed += usize::from(matches!(call.by, By::Seed(_)));
+        self.without += usize::from(call.by == By::DefaultSeed);
         self.differ += wrong;
         if wrong == 1 && self.differ <= 5 {
             println!("differs: {kind}, {} names, {} repeats: {}", call.rows, call.repeat, found.join("; "));
         }
-        for row in [("calls", kind.to_string()), ("answer", format!("{:2}", want.told[0]))] {
+        for row in [("calls", kind.to_string()), (if call.by == By::Draws { "answer" } else { "seeded" }, format!("{number:2}"))] {
             let row = self.calls.entry(row).or_default();
             row.0 += 1;
             row.1 += wrong;
@@ -50,6 +60,7 @@ impl Counts {
             println!("{heading:7} {kind:28} {compared:9} compared, {differ} differ");
         }
         self.certain.print();
+        println!("by a seed: {} calls of get_onc_clusters_with_seed, {} of get_onc_clusters", self.by_seed, self.without);
         println!("{books} books, {} calls compared, {} differ", self.compared, self.differ);
     }
 }
@@ -146,29 +157,63 @@ fn wrong(call: &Call, fault: usize) -> Option<Call> {
     Some(Call { rows, cols, repeat, ..call })
 }
 
-/// Lists and sizes that are wrong: each by itself, or one alone and two at once.
-fn wrong_lists(r: &mut Random, counts: &mut Counts, call: &Call, every: bool) {
+/// Lists and sizes that are wrong: each by itself, or one alone and two at once; with draws and by a seed.
+fn wrong_lists(r: &mut Random, counts: &mut Counts, call: &Call, by: By, every: bool) {
     let faults: Vec<Call> = (0..).map_while(|fault| wrong(call, fault)).collect();
     let one = r.below(faults.len());
     for fault in if every { &faults[..] } else { &faults[one..one + 1] } {
         counts.ask(r, fault, if every { "each wrong list or size" } else { "a wrong list or size" });
+        counts.ask(r, &fault.taking(by), if every { "each wrong one, by a seed" } else { "a wrong one, by a seed" });
     }
     // the lists of one fault with the sizes and repeats of another
     let other = &faults[r.from(40, faults.len() - 1)];
     let two = Call { rows: other.rows, cols: other.cols, repeat: other.repeat, ..faults[r.below(40)].clone() };
     counts.ask(r, &two, "two wrong at once");
+    counts.ask(r, &two.taking(by), "two wrong, by a seed");
+}
+
+/// A seed: any, mostly; 42 for `get_onc_clusters`; at the ends of the range and of a word; those of crates/test_streams whose first index takes a
+/// second word.
+fn a_seed(r: &mut Random) -> u64 {
+    match r.below(8) {
+        0 | 1 => 42,
+        2 => r.one_of(&[0, 1, 1 << 32, u64::MAX, 500346866, 137173759, 1220054703]),
+        _ => r.bits(),
+    }
+}
+
+/// The call by the seed of the recorded run, and that of seed 42 by `get_onc_clusters` too: as the Rust answers, and bit for bit as on the list of
+/// the recorded draws. Some working lists are longer than they must be.
+fn by_seed(r: &mut Random, counts: &mut Counts, call: &Call, want: &Answer, seed: u64) {
+    let mut call = call.clone();
+    for list in [4, 5] {
+        call.lent[list] += r.one_of(&[0, 0, 1, 9]);
+    }
+    let seeded = call.taking(By::Seed(seed));
+    counts.add(r, &seeded, want, "by the seed");
+    counts.note(&seeded, want.told[0], apart(&call, &seeded), "by the seed as by its draws");
+    if seed == 42 {
+        let plain = call.taking(By::DefaultSeed);
+        if call.rows <= 12 {
+            counts.ask(r, &plain, "without a seed");
+        } else {
+            counts.add(r, &plain, want, "without a seed");
+        }
+    }
 }
 
 /// All of the above for small books, one of them for books of up to 100 names; beyond that the Rust takes seconds for a run.
 fn one_book(r: &mut Random, counts: &mut Counts, n: usize) {
     let (kind, book) = if n > 100 { ("blocks".into(), of_kind(r, 1, n)) } else { named(r, n) };
     let repeat = if n > 24 { 1 } else { r.one_of(&[1, 1, 1, 2, 3]) };
-    let (want, control) = by_rust(&book, n, repeat, Source::Seeded, r.bits());
+    let seed = a_seed(r);
+    let (want, control) = by_rust(&book, n, repeat, Source::Seeded, seed);
     let call = Call::proper(book, n, repeat, control.draws);
     counts.book("book", kind);
     counts.book("repeats", repeat.to_string());
     counts.book("rounds", format!("{:2}", control.rounds.len()));
     counts.add(r, &call, &want, "draws of a seeded run");
+    by_seed(r, counts, &call, &want, seed);
     let small = n <= 12;
     let mut behind = call.clone();
     behind.draws.extend((0..r.from(1, 9)).map(|_| r.bits()));
@@ -191,7 +236,8 @@ fn one_book(r: &mut Random, counts: &mut Counts, n: usize) {
     }
     if small || one == 3 {
         let every = small && r.once_in(10);
-        wrong_lists(r, counts, &call, every);
+        let by = if seed == 42 { By::DefaultSeed } else { By::Seed(seed) };
+        wrong_lists(r, counts, &call, by, every);
     }
 }
 

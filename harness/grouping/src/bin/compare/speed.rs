@@ -1,7 +1,7 @@
-//! Both sides in one process, on the same block books with noise and the same draws, one repeat: whole runs, and the phases of their first
-//! round, one after the other for every k. The t-stats are counted to the silhouettes.
+//! Both sides in one process, on the same block books with noise and the same draws, one repeat: whole runs, the phases of their first
+//! round, one after the other for every k, and whole runs by a seed. The t-stats are counted to the silhouettes.
 use crate::library::{onc_book_pairs, onc_lloyd_in, onc_scores_in, onc_seed_in, onc_tstat_of, Lists};
-use grouping_harness::call::{bits, by_rust, Answer, Call};
+use grouping_harness::call::{bits, by_rust, Answer, By, Call};
 use kmeans_harness::books::{block_correlations, matrix};
 use kmeans_harness::random::Random;
 use openquant::onc::get_onc_clusters_with_seed;
@@ -11,6 +11,8 @@ use std::hint::black_box;
 use std::time::Instant;
 
 const NAMES: [usize; 5] = [12, 20, 50, 100, 256];
+/// The sizes of the runs by a seed.
+const BY_SEED: [usize; 7] = [5, 8, 12, 20, 50, 100, 256];
 const PHASES: [&str; 4] = ["distances", "seeding", "Lloyd", "silhouettes"];
 const SEED: u64 = 42;
 
@@ -25,8 +27,8 @@ struct Case {
 fn case(n: usize) -> Case {
     // the books of all sizes come from one stream, so that a size has the same book in every mode
     let mut r = Random::new(1);
-    let mut books = NAMES.map(|m| block_correlations(&mut r, m, (m / 8).max(2), 0.2)).into_iter();
-    let book = books.find(|book| book.len() == n * n).expect("12, 20, 50, 100 or 256 names");
+    let mut books = NAMES.into_iter().chain([5, 8]).map(|m| block_correlations(&mut r, m, (m / 8).max(2), 0.2));
+    let book = books.find(|book| book.len() == n * n).expect("5, 8, 12, 20, 50, 100 or 256 names");
     let (want, control) = by_rust(&book, n, 1, Source::Seeded, SEED);
     let rows = matrix(&book, n);
     Case { rows, call: Call::proper(book, n, 1, control.draws), want, rounds: control.rounds.len() }
@@ -97,9 +99,9 @@ fn rust_run(case: &Case, meter: &mut Meter) -> bool {
     found.is_ok_and(|found| found.clusters.len() == case.want.told[2])
 }
 
-/// The same on the library, with the recorded draws; whether answer and outputs are the recorded ones.
-fn library_run(case: &Case, lists: &mut Lists, meter: &mut Meter) -> bool {
-    meter.run(|| lists.run(black_box(&case.call)));
+/// The same on the library, by a call of the case; whether answer and outputs are the recorded ones.
+fn library_run(case: &Case, call: &Call, lists: &mut Lists, meter: &mut Meter) -> bool {
+    meter.run(|| lists.run(black_box(call)));
     lists.hold(&case.want)
 }
 
@@ -108,9 +110,28 @@ fn whole(case: &Case, runs: usize) -> ([Times; 2], bool) {
     let mut lists = Lists::new(&case.call);
     let (mut rust, mut library, mut equal) = (Meter::Clock(Vec::new()), Meter::Clock(Vec::new()), true);
     for _ in 0..runs {
-        equal &= rust_run(case, &mut rust) && library_run(case, &mut lists, &mut library);
+        equal &= rust_run(case, &mut rust) && library_run(case, &case.call, &mut lists, &mut library);
     }
     ([rust, library].map(|meter| Times::of(meter.times())), equal)
+}
+
+/// Whole runs by a seed: the times of the Rust, of the library on the list of the draws, and of the library by the seed, one after the other in
+/// each turn, a turn starting with another; and whether each answer was the recorded one.
+fn whole_by_seed(case: &Case, runs: usize) -> ([Times; 3], bool) {
+    let seeded = case.call.taking(By::Seed(SEED));
+    let mut lists = Lists::new(&case.call);
+    let (mut meters, mut equal) = ([(); 3].map(|_| Meter::Clock(Vec::new())), true);
+    for turn in 0..runs {
+        for side in (0..3).map(|i| (turn + i) % 3) {
+            let meter = &mut meters[side];
+            equal &= match side {
+                0 => rust_run(case, meter),
+                1 => library_run(case, &case.call, &mut lists, meter),
+                _ => library_run(case, &seeded, &mut lists, meter),
+            };
+        }
+    }
+    (meters.map(|meter| Times::of(meter.times().iter().map(|ms| ms * 1e3).collect())), equal)
 }
 
 /// What the candidates of a round are: centres, labels, scores and t-stat of each, doubles as their bits.
@@ -199,6 +220,15 @@ fn times_of(n: usize, runs: usize) -> usize {
     }
 }
 
+/// The same for runs by a seed: a run of 12 names takes microseconds, so there are more of them.
+fn times_by_seed(n: usize, runs: usize) -> usize {
+    match n {
+        0..=12 => 400 * runs,
+        13..=20 => 100 * runs,
+        _ => times_of(n, runs),
+    }
+}
+
 /// The limits in docs/SPEED.md are counted in cycles. Nanoseconds of a cycle, by a chain of integer products, which take 3 cycles each; and of an addition
 /// of doubles that waits for another.
 fn cycle_and_addition() -> [f64; 2] {
@@ -227,6 +257,23 @@ fn answers(equal: bool) -> &'static str {
     } else {
         "DIFFER"
     }
+}
+
+/// The table of whole runs by a seed; whether all answers are equal.
+pub fn time_seeds(runs: usize) -> bool {
+    let mut right = true;
+    println!("Whole runs of one repeat by the seed {SEED}, microseconds: median (least to greatest)\n");
+    println!("| names | rounds | draws | runs | Rust | library, by the list of draws | library, by the seed | Rust to list | Rust to seed | answers |");
+    println!("|---|---|---|---|---|---|---|---|---|---|");
+    for case in BY_SEED.map(case) {
+        let (n, runs) = (case.call.rows, times_by_seed(case.call.rows, runs));
+        let ([rust, list, seed], equal) = whole_by_seed(&case, runs);
+        right &= equal;
+        let [to_list, to_seed] = [list, seed].map(|side| rust.middle() / side.middle());
+        let sides = [rust, list, seed].map(Times::text).join(" | ");
+        println!("| {n} | {} | {} | {runs} | {sides} | {to_list:.1} | {to_seed:.1} | {} |", case.rounds, case.call.draws.len(), answers(equal));
+    }
+    right
 }
 
 pub fn time(runs: usize) -> bool {
@@ -266,8 +313,8 @@ pub fn time(runs: usize) -> bool {
         println!("| {} to {} | {} |", NAMES[i - 1], NAMES[i], row.iter().map(|x| format!("{x:.1}")).collect::<Vec<_>>().join(" | "));
     }
     let [cycle, addition] = cycle_and_addition();
-    println!("\nA cycle takes {cycle:.2} ns, an addition that waits for another {:.1} cycles.", addition / cycle);
-    right
+    println!("\nA cycle takes {cycle:.2} ns, an addition that waits for another {:.1} cycles.\n", addition / cycle);
+    time_seeds(runs) && right
 }
 
 /// Both sides on a phase of the first round, or else on a whole run, one of them counted; whether their answers are the same.
@@ -278,6 +325,6 @@ pub fn count(side: &str, what: &str, n: usize) -> bool {
     let (rust, library) = if side == "rust" { (counting, other) } else { (other, counting) };
     match phase {
         Some(_) => rust_round(&case, rust) == library_round(&case, library),
-        None => rust_run(&case, rust) && library_run(&case, &mut Lists::new(&case.call), library),
+        None => rust_run(&case, rust) && library_run(&case, &case.call, &mut Lists::new(&case.call), library),
     }
 }
