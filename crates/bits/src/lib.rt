@@ -1,4 +1,5 @@
 // A double and its bits, at every pattern and every value.
+#![tactic(auto)]
 ghost use Rattle.std.specs.Prelude.{◌≡◌};
 ghost use Rattle.bits.specs.Bits.{double_of, bits_of};
 

@@ -2,6 +2,7 @@
 // copied. A function over it takes it apart and calls the covered form in `distance`; the last two make the struct from
 // plain lists, for callers that do not hold one. All but `book_of` say `return`: without it a call that gives nothing back is lowered in
 // another way than one that gives an answer, and would need a proof of its own (proofs/Walks.antt).
+#![tactic(auto)]
 ghost use Rattle.std.specs.Prelude.{◌≡◌, ◌<◌, ◌*◌, length};
 ghost use Rattle.lists.specs.Lists.{matrix_of};
 ghost use Rattle.refusals.specs.Table.{refusal_of};

@@ -1,1 +1,2 @@
 // Books with holes: definitions and laws alone, no code.
+#![tactic(auto)]

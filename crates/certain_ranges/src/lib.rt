@@ -1,1 +1,2 @@
 // Doubles within whole bounds: definitions and laws alone, no code.
+#![tactic(auto)]

@@ -1,4 +1,5 @@
 // The choice between two candidates, and between the old partition and the new one.
+#![tactic(auto)]
 ghost use Rattle.std.specs.Prelude.{◌≡◌, ◌<◌, length};
 ghost use Rattle.choice.specs.Choice.{chosen};
 ghost use Rattle.choice.specs.Replaces.{replaces_kept};

@@ -1,5 +1,6 @@
 // Distances of a book of correlations, on plain lent lists and through a list of row numbers. A book that is read
 // through row numbers is read where it lies; only `submatrix` copies cells, to the list that the caller lends for them.
+#![tactic(auto)]
 ghost use Rattle.std.specs.Prelude.{◌≡◌, ◌<◌, ◌*◌, eqb, length};
 ghost use Rattle.lists.specs.Lists.{cells, listed, put, matrix_of, first_from};
 ghost use Rattle.refusals.specs.Table.{refusal_of, refusal};

@@ -1,4 +1,5 @@
 // Draws: how many a seeding and a round take, taking one from a list, a share, and what can end a run.
+#![tactic(auto)]
 ghost use Rattle.std.specs.Prelude.{◌≡◌, ◌+◌, ◌<◌, ◌≤◌, length, drop};
 ghost use Rattle.draws.specs.Counts.{trials_of, seeding_of, tries, count_of};
 ghost use Rattle.draws.specs.Bounds.{later_of};

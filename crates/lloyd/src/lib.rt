@@ -2,6 +2,7 @@
 // that is not used here, and the table, whose row l has the squared distances of all items to centroid l. The table is
 // kept from pass to pass: only rows of groups whose members changed are worked out anew.
 // Inner forms, all functions here.
+#![tactic(auto)]
 ghost use Rattle.std.specs.Prelude.{◌≡◌, ◌*◌, length, take};
 ghost use Rattle.distance_columns.specs.Columns.{points_at};
 ghost use Rattle.lloyd_table.specs.Area.{Held, Centres};

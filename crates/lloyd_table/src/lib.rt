@@ -2,6 +2,7 @@
 // squared pair distances, one that is not used here, and the table, whose row l has the squared distances of all items to
 // centroid l: the mean of the members of group l, the item that it takes if it is empty, or the item that it starts from. Inner forms, all functions
 // here.
+#![tactic(auto)]
 ghost use Rattle.std.specs.Prelude.{◌≡◌, ℕ, ◌<◌, ◌*◌, length, take, set, true};
 ghost use Rattle.std.specs.Float.{inf};
 ghost use Rattle.lists.specs.Lists.{numbers};

@@ -1,4 +1,5 @@
 // A run within the limits of a call: the rounds, the ordered matrix, and the working lists wiped. Inner forms, for the public call.
+#![tactic(auto)]
 ghost use Rattle.std.specs.Prelude.{◌≡◌, ◌*◌, length};
 ghost use Rattle.lists.specs.Lists.{listed};
 ghost use Rattle.onc_answers.specs.Answers.{answer_of};

@@ -4,6 +4,7 @@
 // or none: then the call is `get_onc_clusters`. The kind of a case is by its number in kinds.txt of this crate.
 // Lent lists hold 999 or 7.0 in each cell before the call. specs/Seeds.antt says when a case is answered as recorded, and a case that
 // differs is printed as in test_runs. harness/grouping/run.sh records the cases.
+#![tactic(auto)]
 ghost use Rattle.std.specs.Prelude.{◌<◌, ◌≤◌, ◌≡◌, length, take, replicate};
 ghost use Rattle.onc_answers.specs.Answers.{answer_of};
 ghost use Rattle.onc.specs.Onc.{seeded_of};

@@ -1,4 +1,5 @@
 // What a call that writes a text answers.
+#![tactic(auto)]
 ghost use Rattle.std.specs.Prelude.{◌≡◌};
 ghost use Rattle.text_written.specs.Answers.{number_of, bytes_of};
 
