@@ -34,9 +34,3 @@ pub record Readable (book : List Float) (n : ℕ) (rows : List ℕ) : Type 0 whe
   pub square : length book ≡ n * n
   pub few_read : length rows ≤ 256
   pub within : (k : ℕ) → k < length rows → numbers rows k < n
-
--- what row i of the distances needs: a list of as many rows as are read, in which column i of the rows above has its distances
-pub record RowsAbove (book : List Float) (n : ℕ) (rows : List ℕ) (i : ℕ) (out : List Float) : Type 0 where
-  pub row_inside : i < length rows
-  pub size : length out ≡ length rows * length rows
-  pub above : (a : ℕ) → a < i → cell_at out (length rows) a i ≡ dist_at book n rows a i

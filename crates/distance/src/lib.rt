@@ -2,10 +2,10 @@
 // through row numbers is read where it lies; only `submatrix` copies cells, to the list that the caller lends for them.
 #![tactic(auto)]
 ghost use Rattle.std.specs.Prelude.{◌≡◌, ◌<◌, ◌*◌, eqb, length};
-ghost use Rattle.lists.specs.Lists.{cells, listed, put, matrix_of, first_from};
+ghost use Rattle.lists.specs.Lists.{cells, listed, matrix_of, first_from};
 ghost use Rattle.refusals.specs.Table.{refusal_of, refusal};
 ghost use Rattle.distance.specs.Distance as spec;
-ghost use Rattle.distance.specs.Distance.{cell_through, dist_at, Readable, RowsAbove};
+ghost use Rattle.distance.specs.Distance.{cell_through, dist_at, Readable};
 ghost use Rattle.distance.specs.Leaves as leaves;
 
 use refusals::Answer;
@@ -65,30 +65,14 @@ pub fn fill_cells(book: &[f64], n: usize, rows: &[usize], out: &mut [f64])
     }
 }
 
-// The distance in row i, column j: where the cell equals its mirror in a row above, the distance that stands there. Inner form.
-fn distance_cell(book: &[f64], n: usize, rows: &[usize], i: usize, j: usize, out: &[f64]) -> f64
-    requires { Readable book.now n rows.now × RowsAbove book.now n rows.now i out.now × (j < length rows.now) }
-    ensures { result ≡ dist_at book.now n rows.now i j }
-{
-    let c = cell_at(book, n, rows, i, j);
-    if j < i {
-        if c == cell_at(book, n, rows, j, i) {
-            let at = j * rows.len() + i;
-            return out[at];
-        }
-    }
-    distance(c)
-}
-
-// The distances in row i of the book that the rows make, behind the rows above. Inner form.
+// The distances in row i of the book that the rows make. Inner form.
 fn distance_row(book: &[f64], n: usize, rows: &[usize], i: usize, out: &mut [f64])
-    requires { Readable book.now n rows.now × RowsAbove book.now n rows.now i out.old }
-    ensures { out.new ≡ put (i * length rows.now) (length rows.now) out.old (listed (dist_at book.now n rows.now i) (length rows.now)) }
+    requires { Readable book.now n rows.now × (i < length rows.now) × (length out.old ≡ length rows.now) }
+    ensures { out.new ≡ listed (dist_at book.now n rows.now i) (length rows.now) }
 {
     let m = rows.len();
-    let at = i * m;
     for j in 0..m {
-        out[at + j] = distance_cell(book, n, rows, i, j, out);
+        out[j] = distance(cell_at(book, n, rows, i, j));
     }
 }
 
@@ -99,7 +83,9 @@ pub fn fill_distances(book: &[f64], n: usize, rows: &[usize], out: &mut [f64])
 {
     let m = rows.len();
     for i in 0..m {
-        distance_row(book, n, rows, i, out);
+        let at = i * m;
+        let end = at + m;
+        distance_row(book, n, rows, i, &mut out[at..end]);
     }
 }
 

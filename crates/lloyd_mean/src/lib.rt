@@ -70,6 +70,13 @@ fn distances_with(
     distance_columns::squared_tail(mean, across, 0, out);
 }
 
+// Room for a mean of at most 32 cells: most means are of small rounds, and a list of 256 cells takes longer to make than such a mean.
+fn short_buffer() -> [f64; 32]
+    ensures { 32 ≡ length result }
+{
+    [0.0; 32]
+}
+
 // The squared distance of each item to the mean of the n members of group l. Inner form: `across` is the transpose of `points`.
 pub fn mean_distances(
     points: &[f64],
@@ -84,7 +91,7 @@ pub fn mean_distances(
 {
     let m = labels.len();
     if m <= 32 {
-        let mut mean = lists::short_row();
+        let mut mean = short_buffer();
         distances_with(points, across, labels, l, n, &mut mean[..m], out);
         return;
     }

@@ -55,6 +55,13 @@ fn refresh_rows(
     }
 }
 
+// Room for the sizes or the marks of at most 32 groups: a list of 256 numbers takes longer to make than a pass over few items.
+fn short_buffer() -> [usize; 32]
+    ensures { 32 ≡ length result }
+{
+    [0; 32]
+}
+
 // The same, with sizes and marks of its own. `dists`, `sums` and the rows of the table behind the k-th are left with anything.
 pub fn refresh(
     area: &mut [f64],
@@ -72,8 +79,8 @@ pub fn refresh(
 {
     let m = labels.len();
     if m <= 32 {
-        let mut sizes = lists::short_numbers();
-        let mut marks = lists::short_numbers();
+        let mut sizes = short_buffer();
+        let mut marks = short_buffer();
         refresh_rows(
             area,
             old,

@@ -8,7 +8,6 @@ use lib.ListN.{length, drop}
 use lib.Seq.{drop-drop}
 use lib.Ieee.{Float}
 use Rattle.lists.specs.Lists.{cells, listed, row}
-use Rattle.lists.specs.Sums.{sum_to}
 use Rattle.lists.proofs.Matrix.{row_long}
 use Rattle.draws.specs.declared.Draw.TheVariants as draw
 use Rattle.draws.specs.declared.Stop.{Stop}
@@ -19,12 +18,12 @@ use Rattle.draws.specs.Stops.{draw_of}
 use Rattle.draws.proofs.Taken.{draw_value, draw_stopped}
 use Rattle.plusplus_pick.specs.declared.Trial.{Trial}
 use Rattle.plusplus_trials.specs.declared.Tried.TheVariants as tried
-use Rattle.plusplus_pick.specs.Potentials.{with, RunningSums}
+use Rattle.plusplus_pick.specs.Potentials.{with}
 use Rattle.plusplus_trials.specs.Trials.{next_of, tried_of}
 use Rattle.plusplus_trials.proofs.Centring.{next_took, search_stopped, search_best}
 use Rattle.plusplus.specs.declared.Seeded.{Seeded}
 use Rattle.plusplus.specs.declared.Seeded.TheVariants.{Done, Stopped}
-use Rattle.plusplus.specs.Seeding.{centres_of, seeding, Weights, Totalled, SeededBy}
+use Rattle.plusplus.specs.Seeding.{centres_of, seeding, Weights, SeededBy}
 
 -- the draws of one centre are among those of the centres that are left
 pub turn-fits : (j k t : ℕ) → 1 ≤ j → j < k → (j - 1) * t + t ≤ (k - 1) * t
@@ -60,18 +59,6 @@ weights_stopped q m ws ws' D (p, e, h) = rw e tt
 pub weights_best : (q : ℕ → ℕ → Float) (m : ℕ) (ws ws' : List Float) (D : Drawn Trial) {b : Trial} {rest : List ℕ} → D ≡ drawn b rest
     → ws' ≡ listed (with q (cells ws) b.pick) m → Weights q m ws D ws'
 weights_best q m ws ws' D e h = rw e h
-
--- the running weights and the total after a search, by its answer
-pub totalled_stopped : (D : Drawn Trial) (sums ws : List Float) {s : Stop} → StoppedBy D s → Totalled D sums ws
-totalled_stopped D sums ws (p, e, h) = rw e tt
-
-pub totalled_best : (D : Drawn Trial) (sums ws : List Float) {b : Trial} {rest : List ℕ} → D ≡ drawn b rest → RunningSums sums ws → b.potential ≡ sum_to (cells ws) (length ws)
-    → Totalled D sums ws
-totalled_best D sums ws e r h = rw e (r, h)
-
-pub totalled_is : (D : Drawn Trial) (sums ws : List Float) {b : Trial} → tried_of D ≡ tried.Best b → Totalled D sums ws → RunningSums sums ws × (b.potential ≡ sum_to (cells ws) (length ws))
-totalled_is (drawn s rest) sums ws {b} e h = let q : s ≡ b = cc in (h.0, subst (λ (x : Trial). x.potential ≡ sum_to (cells ws) (length ws)) q h.1)
-totalled_is (refused p) sums ws e h = let z : ◌≡◌ {A = ℕ} 0 1 = cc in absurd (omega arith)
 
 module _ (q : ℕ → ℕ → Float) (m t : ℕ) (z : 0 < m) (some : 0 < t) where
   centre_refused : (k j at p : ℕ) (ws : List Float) (cs draws : List ℕ) → j < k → next_of q m t ws at (drop at draws) ≡ refused p

@@ -1,12 +1,11 @@
 -- k-means++ seeding (Arthur and Vassilvitskii 2007): k centres among m items, with q p i the squared distance of items p and i. Definitions only.
 use Rattle.std.specs.Prelude.{ℕ, zero, suc, ◌+◌, ◌-◌, ◌*◌, ◌<◌, ◌≤◌, ◌≡◌, List, [], ◌∷◌, ◌++◌, length, Float}
 use Rattle.lists.specs.Lists.{cells, listed, numbers}
-use Rattle.lists.specs.Sums.{sum_to}
 use Rattle.draws.specs.Counts.{trials_of, seeding_of}
 use Rattle.draws.specs.Draws.{Drawn, drawn, refused, index_draw, and_then}
 use Rattle.draws.specs.declared.Stop.TheVariants.{DrawOutOfRange}
 use Rattle.plusplus_pick.specs.declared.Trial.{Trial}
-use Rattle.plusplus_pick.specs.Potentials.{with, RunningSums}
+use Rattle.plusplus_pick.specs.Potentials.{with}
 use Rattle.plusplus_trials.specs.Trials.{next_of}
 use Rattle.plusplus.specs.declared.Seeded.{Seeded}
 use Rattle.plusplus.specs.declared.Seeded.TheVariants.{Done, Stopped}
@@ -29,11 +28,6 @@ seeding q m k at ds = first_centres q m k (k - 1) at ds
 abbrev pub Weights : (ℕ → ℕ → Float) → ℕ → List Float → Drawn Trial → List Float → Type 0
 Weights q m ws (drawn b rest) ws' = ws' ≡ listed (with q (cells ws) b.pick) m
 Weights q m ws (refused p) ws' = Unit
-
--- the running weights after it, and that the winner's potential is the total of the weights; where a draw was out of range nothing is known
-abbrev pub Totalled : Drawn Trial → List Float → List Float → Type 0
-Totalled (drawn b rest) sums ws = RunningSums sums ws × (b.potential ≡ sum_to (cells ws) (length ws))
-Totalled (refused p) sums ws = Unit
 
 -- the answer: the place of the next draw, which is `next`; or what ends the run
 abbrev pub answer_of : ℕ → Drawn (List ℕ) → Seeded

@@ -7,7 +7,7 @@ ghost use Rattle.lists.specs.Sums.{sum_to};
 ghost use Rattle.plusplus_pick.specs.Potentials as spec;
 ghost use Rattle.plusplus_pick.specs.Potentials.{RunningSums};
 ghost use Rattle.plusplus_trials.specs.Trials.{table, next_of, tried_of, Weighed};
-ghost use Rattle.plusplus.specs.Seeding.{centres_of, seeding, Weights, Totalled, Ready, SeededBy};
+ghost use Rattle.plusplus.specs.Seeding.{centres_of, seeding, Weights, Ready, SeededBy};
 
 // The place of the next draw, or what ends the run.
 #[derive(Drop)]
@@ -16,53 +16,63 @@ pub enum Seeded {
     Stopped(draws::Stop),
 }
 
-// The weights with the item of the row as a centre too, and their running weights, in one loop. `sums` holds anything before the call.
-fn keep_lesser(weights: &mut [f64], squares: &[f64], sums: &mut [f64])
-    requires { (length squares.now ≡ length weights.old) × (length sums.old ≡ length weights.old) }
-    ensures weights_after { weights.new ≡ listed (λ i. spec.lesser_number (cells weights.old i) (cells squares.now i)) (length weights.old) }
-    ensures running_sums { RunningSums sums.new weights.new }
+// The weights with the item of the row as a centre too.
+fn keep_lesser(weights: &mut [f64], squares: &[f64])
+    requires { length squares.now ≡ length weights.old }
+    ensures { weights.new ≡ listed (λ i. spec.lesser_number (cells weights.old i) (cells squares.now i)) (length weights.old) }
 {
     let m = weights.len();
-    let mut sum = 0.0;
     for i in 0..m {
-        let w = plusplus_pick::lesser_number(weights[i], squares[i]);
-        weights[i] = w;
-        sum = sum + w;
-        sums[i] = sum;
+        weights[i] = plusplus_pick::lesser_number(weights[i], squares[i]);
     }
 }
 
-// The best trial's pick becomes a centre, by the running weights and their total. Inner form. Where no draw stopped it, `sums` then has the next running weights,
-// and the potential of the trial that won is the next total.
+// The best trial's pick becomes a centre, by the running weights and their total. Inner form.
 pub fn centre_by_sums(
     squares: &[f64],
     weights: &mut [f64],
-    sums: &mut [f64],
+    sums: &[f64],
     total: f64,
     draws: &[u64],
     at: usize,
     count: usize,
 ) -> plusplus_trials::Tried
-    requires weighed { Weighed squares.now weights.old × RunningSums sums.old weights.old × (total ≡ sum_to (cells weights.old) (length weights.old)) }
+    requires weighed { Weighed squares.now weights.old × RunningSums sums.now weights.old × (total ≡ sum_to (cells weights.old) (length weights.old)) }
     requires le_count { (2 ≤ count) × (at + count ≤ length draws.now) }
     ensures value { result ≡ tried_of (next_of (table squares.now (length weights.old)) (length weights.old) count weights.old at (drop at draws.now)) }
     ensures weights { Weights (table squares.now (length weights.old)) (length weights.old) weights.old
         (next_of (table squares.now (length weights.old)) (length weights.old) count weights.old at (drop at draws.now)) weights.new }
-    ensures totalled { Totalled (next_of (table squares.now (length weights.old)) (length weights.old) count weights.old at (drop at draws.now))
-        sums.new weights.new }
 {
     let m = weights.len();
     match plusplus_trials::best_trial(squares, weights, sums, total, draws, at, count) {
         plusplus_trials::Tried::Stopped(s) => plusplus_trials::Tried::Stopped(s),
         plusplus_trials::Tried::Best(b) => {
-            keep_lesser(weights, lists::row_of(squares, m, b.pick), sums);
+            keep_lesser(weights, lists::row_of(squares, m, b.pick));
             plusplus_trials::Tried::Best(b)
         }
     }
 }
 
+// The best trial's pick becomes a centre. `sums` holds anything, before the call and after it.
+fn next_centre(
+    squares: &[f64],
+    weights: &mut [f64],
+    draws: &[u64],
+    at: usize,
+    count: usize,
+    sums: &mut [f64],
+) -> plusplus_trials::Tried
+    requires weighed { Weighed squares.now weights.old }
+    requires le_count { (2 ≤ count) × (at + count ≤ length draws.now) × (length sums.old ≡ length weights.old) }
+    ensures value { result ≡ tried_of (next_of (table squares.now (length weights.old)) (length weights.old) count weights.old at (drop at draws.now)) }
+    ensures weights { Weights (table squares.now (length weights.old)) (length weights.old) weights.old
+        (next_of (table squares.now (length weights.old)) (length weights.old) count weights.old at (drop at draws.now)) weights.new }
+{
+    let total = plusplus_pick::sum_weights(weights, sums);
+    centre_by_sums(squares, weights, sums, total, draws, at, count)
+}
+
 // The centres behind the first, with the draws from place `from` on. The weights are those with the first as centre; `sums` is a list to work in.
-// The weights are summed by themselves for the first of them; the next total is the potential of the trial that won.
 fn more_centres(
     squares: &[f64],
     draws: &[u64],
@@ -80,16 +90,14 @@ fn more_centres(
     let k = centres.len();
     let count = draws::trials(k);
     let mut at = from;
-    let mut total = plusplus_pick::sum_weights(weights, sums);
     for j in 1..k {
-        match centre_by_sums(squares, weights, sums, total, draws, at, count) {
+        match next_centre(squares, weights, draws, at, count, sums) {
             plusplus_trials::Tried::Stopped(s) => {
                 return Seeded::Stopped(s);
             }
             plusplus_trials::Tried::Best(b) => {
                 centres[j] = b.pick;
                 at = at + count;
-                total = b.potential;
             }
         }
     }

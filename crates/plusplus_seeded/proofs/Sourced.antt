@@ -1,6 +1,6 @@
 -- What `seed_by` answers, by either kind of source, and the generator that it leaves.
 use mathlib.Core.Path.{◌≡◌, refl, ◌∙◌, sym, ap, subst}
-use mathlib.Core.Bool.{Bool, true, false, cond, true≢false}
+use mathlib.Core.Bool.{Bool, true, false, cond}
 use mathlib.Core.List.{List, [], ◌++◌}
 use Prim.Native.Nat.{ℕ, ◌+◌, ◌*◌, ◌≤◌, ◌<◌}
 use native.Mathlib.Omega.{arith}
@@ -100,4 +100,8 @@ module _ (src : Source) (draws : List ℕ) (q : ℕ → ℕ → Float) (m k : �
       λ e. (v.key_is ∙ key, subst (λ (i : ℕ). Holds i rng') n v.holds)
 
   pub rng_none : {rng : List ℕ} → src.seeded ≡ false → RngOf (moved_on src (seeding_of k) (seed_next src q m k)) rng
-  rng_none h = λ e. absurd (true≢false (sym e ∙ h))
+  rng_none h =
+      λ e.
+      let a : true ≡ false = sym e ∙ h in
+      let z : ◌≡◌ {A = ℕ} 0 1 = cc in
+      absurd (omega arith)

@@ -4,9 +4,8 @@
 ghost use Rattle.std.specs.Prelude.{◌≡◌, true, false, ◌<◌, ◌≤◌, ◌+◌, ◌-◌, ◌*◌, ◌^◌, ◌∷◌, ◌++◌};
 ghost use lib.ListN.{length};
 ghost use Rattle.lists.specs.Lists.{cells, listed};
-ghost use Rattle.lists.specs.Sums.{sum_to};
 ghost use Rattle.draws.specs.Counts.{trials_of, seeding_of};
-ghost use Rattle.plusplus_pick.specs.Potentials.{with, RunningSums};
+ghost use Rattle.plusplus_pick.specs.Potentials.{with};
 ghost use Rattle.plusplus_trials.specs.Trials.{table, Weighed};
 ghost use Rattle.rng_std.specs.Seeds.{key_of};
 ghost use Rattle.rng_std.specs.Words.{word_of};
@@ -15,12 +14,11 @@ ghost use Rattle.plusplus_seeded.specs.Seeded.{place_of, draws_by, rule_of, cent
 ghost use Rattle.plusplus_seeded.specs.Steps.{MayDraw, MaySeedFrom};
 ghost use Rattle.plusplus_seeded.specs.Sources.{given, moved_on, RngOf, MaySupply, seed_draws, seed_next, SuppliedBy};
 ghost use Rattle.plusplus.specs.Seeding.{seeding};
-// A centre, how many words are then taken, and the total of the weights with it as a centre too.
+// A centre, and how many words are then taken.
 #[derive(Drop)]
 pub struct Picked {
     pub pick: usize,
     pub taken: u64,
-    pub total: f64,
 }
 
 // A draw for a trial: a share where the total is above 0, else an index.
@@ -50,8 +48,7 @@ fn draw_all(rng: &mut [u32], first: u64, total: f64, m: usize, draws: &mut [u64]
     taken
 }
 
-// One centre more: its draws, and the best of their trials. `draws` has room for a draw for each trial; it holds anything before the call.
-// `total` and `sums` are those of the weights; the answer has the next total, the potential of the trial that won, and `sums` has the next running weights.
+// One centre more: its draws, and the best of their trials. `draws` has room for a draw for each trial; it holds anything before the call, and so do `sums`.
 fn next_from(
     squares: &[f64],
     weights: &mut [f64],
@@ -59,35 +56,31 @@ fn next_from(
     taken: u64,
     draws: &mut [u64],
     sums: &mut [f64],
-    total: f64,
 ) -> Picked
     requires weighed { Weighed squares.now weights.old × MayDraw rng.old taken (length weights.old) × (taken + 2 * length draws.old < 2 ^ 60) }
-    requires in_bounds { (2 ≤ length draws.old) × RunningSums sums.old weights.old × (total ≡ sum_to (cells weights.old) (length weights.old)) }
+    requires in_bounds { (2 ≤ length draws.old) × (length sums.old ≡ length weights.old) }
     ensures pick_value { result.pick ≡ centre_of (word_of (key_in rng.old)) (table squares.now (length weights.old)) (length weights.old) (length draws.old) weights.old taken }
     ensures weights_after { weights.new ≡ listed (with (table squares.now (length weights.old)) (cells weights.old) result.pick) (length weights.old) }
     ensures taken_value { (result.taken ≡ place_of (centre_rule (word_of (key_in rng.old)) (table squares.now (length weights.old)) (length weights.old) (length draws.old) weights.old) (length draws.old) taken)
         × Moved rng.old result.taken rng.new }
-    ensures running_sums { RunningSums sums.new weights.new × (result.total ≡ sum_to (cells weights.new) (length weights.new)) }
 {
     let m = weights.len();
     let count = draws.len();
+    let total = plusplus_pick::sum_weights(weights, sums);
     let next = draw_all(rng, taken, total, m, draws);
     match plusplus::centre_by_sums(squares, weights, sums, total, draws, 0, count) {
         plusplus_trials::Tried::Stopped(s) => Picked {
             pick: 0,
             taken: next,
-            total,
         },
         plusplus_trials::Tried::Best(b) => Picked {
             pick: b.pick,
             taken: next,
-            total: b.potential,
         },
     }
 }
 
 // The centres behind the first. The weights are those with the first as centre. It answers how many words are then taken.
-// The weights are summed by themselves for the first of them; the next total is the potential of the trial that won.
 fn more_from(
     squares: &[f64],
     rng: &mut [u32],
@@ -106,12 +99,10 @@ fn more_from(
 {
     let k = centres.len();
     let mut taken = first;
-    let mut total = plusplus_pick::sum_weights(weights, sums);
     for j in 1..k {
-        let next = next_from(squares, weights, rng, taken, draws, sums, total);
+        let next = next_from(squares, weights, rng, taken, draws, sums);
         centres[j] = next.pick;
         taken = next.taken;
-        total = next.total;
     }
     taken
 }

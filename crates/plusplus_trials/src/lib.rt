@@ -19,12 +19,12 @@ pub enum Tried {
 
 // What a draw picks, with its potential.
 fn try_draw(squares: &[f64], weights: &[f64], sums: &[f64], total: f64, d: u64) -> Trial
-    requires weighed { Weighed squares.now weights.now × RunningSums sums.now weights.now × (total ≡ sum_to (cells weights.now) (length weights.now)) }
+    requires weighed { Weighed squares.now weights.now × RunningSums sums.now weights.now }
     requires d_bound { d < spec.limit total (length weights.now) }
     ensures { result ≡ spec.trial (table squares.now (length weights.now)) (cells weights.now) total (length weights.now) d }
 {
     let p = plusplus_pick::pick(sums, total, d);
-    let x = plusplus_pick::potential_by(weights, total, lists::row_of(squares, weights.len(), p));
+    let x = plusplus_pick::potential(weights, lists::row_of(squares, weights.len(), p));
     Trial {
         potential: x,
         pick: p,

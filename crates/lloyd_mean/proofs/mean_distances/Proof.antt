@@ -6,17 +6,17 @@ use borrow.Author.Rules.{rules}
 use Rattle.lloyd_mean.proofs.mean_distances.Statement.{statement}
 use Rattle.lloyd_mean.proofs.mean_distances.Tie as tie
 
-short-row-requires : tie.Need-short-row-requires
-short-row-requires c κs = tt
+short-buffer-requires : tie.Need-short-buffer-requires
+short-buffer-requires c κs = tt
 
 array-borrow-prefix-mean : tie.Need-array-borrow-prefix-mean
-array-borrow-prefix-mean c = omega (arith, c.Short-row.ensures, c.before.if1.true)
+array-borrow-prefix-mean c = omega (arith, c.short-buffer.ensures, c.before.if1.true)
 
 slice-aggregate-distances-with : tie.Need-slice-aggregate-distances-with
-slice-aggregate-distances-with c = sym (length-take-le (length c.before.before.before.before.before.before.before.args.labels.now) c.before.Short-row.result (omega (arith, c.before.Short-row.ensures, c.before.before.if1.true)))
+slice-aggregate-distances-with c = sym (length-take-le (length c.before.before.before.before.before.before.before.args.labels.now) c.before.short-buffer.result (omega (arith, c.before.short-buffer.ensures, c.before.before.if1.true)))
 
 distances-with-requires : tie.Need-distances-with-requires
-distances-with-requires c κs = (c.before.before.before.before.before.before.before.before.requires.0, length-take-le (length c.before.before.before.before.before.before.before.before.args.labels.now) c.before.before.Short-row.result (omega (arith, c.before.before.Short-row.ensures, c.before.before.before.if1.true)), c.before.before.before.before.before.before.before.before.requires.1)
+distances-with-requires c κs = (c.before.before.before.before.before.before.before.before.requires.0, length-take-le (length c.before.before.before.before.before.before.before.before.args.labels.now) c.before.before.short-buffer.result (omega (arith, c.before.before.short-buffer.ensures, c.before.before.before.if1.true)), c.before.before.before.before.before.before.before.before.requires.1)
 
 same_length : tie.Need-same-length
 same_length c = search rules
@@ -46,7 +46,7 @@ pub mean-distances-spec : {M : Type 1} → statement M
 mean-distances-spec =
     tie.close
     (tie.spec
-    short-row-requires
+    short-buffer-requires
     array-borrow-prefix-mean
     slice-aggregate-distances-with
     distances-with-requires

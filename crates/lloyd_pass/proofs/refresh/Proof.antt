@@ -6,29 +6,29 @@ use borrow.Author.Rules.{rules}
 use Rattle.lloyd_pass.proofs.refresh.Statement.{statement}
 use Rattle.lloyd_pass.proofs.refresh.Tie as tie
 
-short-numbers-requires : tie.Need-short-numbers-requires
-short-numbers-requires c κs = tt
+short-buffer-requires : tie.Need-short-buffer-requires
+short-buffer-requires c κs = tt
 
-short-numbers-requires-2 : tie.Need-short-numbers-requires-2
-short-numbers-requires-2 c κs = tt
+short-buffer-requires-2 : tie.Need-short-buffer-requires-2
+short-buffer-requires-2 c κs = tt
 
 array-borrow-prefix-sizes : tie.Need-array-borrow-prefix-sizes
-array-borrow-prefix-sizes c = omega (arith, c.before.before.before.before.before.if1.true, c.before.before.before.before.short-numbers.ensures)
+array-borrow-prefix-sizes c = omega (arith, c.before.before.before.before.before.if1.true, c.before.before.before.before.short-buffer.ensures)
 
 slice-aggregate-refresh-rows : tie.Need-slice-aggregate-refresh-rows
-slice-aggregate-refresh-rows c = sym (length-take-le (length c.before.before.before.before.before.before.before.before.before.before.before.before.args.labels.now) c.before.before.before.before.before.short-numbers.result (omega (arith, c.before.before.before.before.before.before.if1.true, c.before.before.before.before.before.short-numbers.ensures)))
+slice-aggregate-refresh-rows c = sym (length-take-le (length c.before.before.before.before.before.before.before.before.before.before.before.before.args.labels.now) c.before.before.before.before.before.short-buffer.result (omega (arith, c.before.before.before.before.before.before.if1.true, c.before.before.before.before.before.short-buffer.ensures)))
 
 array-borrow-prefix-marks : tie.Need-array-borrow-prefix-marks
-array-borrow-prefix-marks c = omega (arith, c.before.before.before.before.before.before.if1.true, c.before.before.before.before.short-numbers2.ensures)
+array-borrow-prefix-marks c = omega (arith, c.before.before.before.before.before.before.if1.true, c.before.before.before.before.short-buffer2.ensures)
 
 slice-aggregate-refresh-rows-2 : tie.Need-slice-aggregate-refresh-rows-2
-slice-aggregate-refresh-rows-2 c = sym (length-take-le (length c.before.before.before.before.before.before.before.before.before.before.before.before.before.args.labels.now) c.before.before.before.before.before.short-numbers2.result (omega (arith, c.before.before.before.before.before.before.before.if1.true, c.before.before.before.before.before.short-numbers2.ensures)))
+slice-aggregate-refresh-rows-2 c = sym (length-take-le (length c.before.before.before.before.before.before.before.before.before.before.before.before.before.args.labels.now) c.before.before.before.before.before.short-buffer2.result (omega (arith, c.before.before.before.before.before.before.before.if1.true, c.before.before.before.before.before.short-buffer2.ensures)))
 
 refresh-rows-requires : tie.Need-refresh-rows-requires
 refresh-rows-requires c κs =
     let p = c.before.before.before.before.before.before.before.before.before.before.before.before.before.requires.1.0 in
     let m = length c.before.before.before.before.before.before.before.before.before.before.before.before.before.args.labels.now in
-    (c.before.before.before.before.before.before.before.before.before.before.before.before.before.requires.0, ((p.0, p.1, p.2, p.3, length-take-le m c.before.before.before.before.before.before.short-numbers.result (omega (arith, c.before.before.before.before.before.before.before.if1.true, c.before.before.before.before.before.before.short-numbers.ensures)), length-take-le m c.before.before.before.before.before.short-numbers2.result (omega (arith, c.before.before.before.before.before.before.before.if1.true, c.before.before.before.before.before.short-numbers2.ensures))), c.before.before.before.before.before.before.before.before.before.before.before.before.before.requires.1.1))
+    (c.before.before.before.before.before.before.before.before.before.before.before.before.before.requires.0, ((p.0, p.1, p.2, p.3, length-take-le m c.before.before.before.before.before.before.short-buffer.result (omega (arith, c.before.before.before.before.before.before.before.if1.true, c.before.before.before.before.before.before.short-buffer.ensures)), length-take-le m c.before.before.before.before.before.short-buffer2.result (omega (arith, c.before.before.before.before.before.before.before.if1.true, c.before.before.before.before.before.short-buffer2.ensures))), c.before.before.before.before.before.before.before.before.before.before.before.before.before.requires.1.1))
 
 same_length : tie.Need-same-length
 same_length c = search rules
@@ -82,8 +82,8 @@ pub refresh-spec : {M : Type 1} → statement M
 refresh-spec =
     tie.close
     (tie.spec
-    short-numbers-requires
-    short-numbers-requires-2
+    short-buffer-requires
+    short-buffer-requires-2
     array-borrow-prefix-sizes
     slice-aggregate-refresh-rows
     array-borrow-prefix-marks

@@ -2,19 +2,15 @@ use Prim.Native.Nat.{◌+◌, ◌<◌, ◌≤◌}
 use mathlib.Core.Path.{◌∙◌, ◌≡◌, sym}
 use native.Mathlib.Omega.{arith}
 use lib.ListN.{drop, length}
-use lib.Ieee.{Float}
-use mathlib.Core.List.{List}
 use borrow.Author.Rules.{rules}
 use Rattle.draws.specs.Draws.{Drawn}
 use Rattle.plusplus_trials.specs.Trials.{next_of, table, tried_of}
-use Rattle.plusplus_pick.specs.Potentials.{RunningSums, with}
+use Rattle.plusplus_pick.specs.Potentials.{with}
 use Rattle.lists.specs.Lists.{cells, listed}
 use Rattle.plusplus_trials.proofs.Centring.{next_took, search_best, search_stopped}
-use Rattle.plusplus_trials.proofs.Totals.{Weighs, next_weighs, total_after}
-use Rattle.plusplus_pick.proofs.Picks.{summed_length}
 use Rattle.draws.proofs.Taken.{Ends, ends_map}
-use Rattle.plusplus.specs.Seeding.{Totalled, Weights}
-use Rattle.plusplus.proofs.Turns.{row_fits, totalled_best, totalled_stopped, weights_best, weights_stopped}
+use Rattle.plusplus.specs.Seeding.{Weights}
+use Rattle.plusplus.proofs.Turns.{row_fits, weights_best, weights_stopped}
 use Rattle.plusplus_trials.specs.declared.Tried.TheVariants.{Best}
 use Rattle.plusplus_pick.specs.declared.Trial.{Trial}
 use Rattle.plusplus.proofs.centre_by_sums.Statement.{statement}
@@ -39,7 +35,7 @@ below : (s : tie.Start) (b : Trial) → tried_of (found s) ≡ Best b → Pick s
 below s b e = search_best (λ x rest. Pick s x) (λ p. Unit) (Pick s b) (found s) e (picks s) (λ rest d h. h)
 
 best-trial-requires : tie.Need-best-trial-requires
-best-trial-requires c κs = c.before.before.before.before.before.before.requires
+best-trial-requires c κs = c.before.before.before.before.before.requires
 
 enum-known-s : tie.Need-enum-known-s
 enum-known-s c = search rules
@@ -49,56 +45,40 @@ enum-known-b c = search rules
 
 row-of-requires : tie.Need-row-of-requires
 row-of-requires c κs =
-    let s = c.before.before.before.before.before.before.before.before.before.before.before in
+    let s = c.before.before.before.before.before.before.before.before.before.before in
     (s.requires.0.0.few, omega (arith, s.requires.0.0.square), omega (arith, s.requires.0.0.some, below s c.before.before.b.given.0.0 (sym c.before.before.before.before.best-trial.ensures ∙ c.before.before.b.given.1)))
 
 keep-lesser-requires : tie.Need-keep-lesser-requires
 keep-lesser-requires c κs =
-    let s = c.before.before.before.before.before.before.before.before.before.before.before.before.before in (
-      row_fits s.args.squares.now (length s.args.weights.now) _ c.before.row_of.ensures (omega (arith, s.requires.0.0.square))
-          (omega (arith, s.requires.0.0.some, below s c.before.before.before.before.b.given.0.0 (sym c.before.before.before.before.before.before.best-trial.ensures ∙ c.before.before.before.before.b.given.1))),
-      summed_length s.args.sums.now s.args.weights.now s.requires.0.1,
-    )
+    let s = c.before.before.before.before.before.before.before.before.before.before.before in
+    row_fits s.args.squares.now (length s.args.weights.now) _ c.row_of.ensures (omega (arith, s.requires.0.0.square))
+    (omega (arith, s.requires.0.0.some, below s c.before.before.before.b.given.0.0 (sym c.before.before.before.before.before.best-trial.ensures ∙ c.before.before.before.b.given.1)))
 
 same_length : tie.Need-same-length
 same_length c = search rules
 
+returns : tie.Need-returns
+returns c =
+    let s = c.before.before.before.before.before.before.before.before.before in
+    let m = length s.args.weights.now in
+    let e = sym c.before.before.before.best-trial.ensures ∙ c.before.s.given.1 in
+    (sym e, weights_stopped (table s.args.squares.now m) m s.args.weights.now s.args.weights.now (found s) (search_stopped (found s) e))
+
 same-length-2 : tie.Need-same-length-2
 same-length-2 c = search rules
 
-returns : tie.Need-returns
-returns c =
-    let s = c.before.before.before.before.before.before.before.before.before.before in
-    let m = length s.args.weights.now in
-    let e = sym c.before.before.before.best-trial.ensures ∙ c.before.s.given.1 in
-    let h = search_stopped (found s) e in
-    (sym e, (weights_stopped (table s.args.squares.now m) m s.args.weights.now s.args.weights.now (found s) h, totalled_stopped (found s) s.args.sums.now s.args.weights.now h))
-
-same-length-3 : tie.Need-same-length-3
-same-length-3 c = search rules
-
-same-length-4 : tie.Need-same-length-4
-same-length-4 c = search rules
-
 returns-2 : tie.Need-returns-2
 returns-2 c =
-    let s = c.before.before.before.before.before.before.before.before.before.before.before.before.before.before.before.before.before.before in
+    let s = c.before.before.before.before.before.before.before.before.before.before.before.before.before.before in
     let m = length s.args.weights.now in
     let w = s.args.weights.now in
-    let q = table s.args.squares.now m in
-    let b = c.before.before.before.before.before.before.before.before.before.b.given.0.0 in
-    let l = c.before.before.before.before.keep-lesser.new.0 in
-    let r = c.before.before.before.before.keep-lesser.new.1.1.0 in
-    let e : tried_of (found s) ≡ Best b = sym c.before.before.before.before.before.before.before.before.before.before.before.best-trial.ensures ∙ c.before.before.before.before.before.before.before.before.before.b.given.1 in
-    let k : l ≡ listed (with q (cells w) b.pick) m = c.before.before.before.before.keep-lesser.ensures.0 ∙ rw c.before.before.before.before.before.before.row_of.ensures in
-    let u : RunningSums r l = c.before.before.before.before.keep-lesser.ensures.1 in (
+    let b = c.before.before.before.before.before.before.b.given.0.0 in
+    let l = c.before.before.keep-lesser.new.0 in
+    let e : tried_of (found s) ≡ Best b = sym c.before.before.before.before.before.before.before.before.best-trial.ensures ∙ c.before.before.before.before.before.before.b.given.1 in
+    let k : l ≡ listed (with (table s.args.squares.now m) (cells w) b.pick) m = c.before.before.keep-lesser.ensures ∙ rw c.before.before.before.row_of.ensures in (
       sym e,
-      (
-        search_best (λ x rest. Pick s x) (λ p. Unit) (Weights q m w (found s) l) (found s) e (picks s) (λ rest d h. weights_best q m w l (found s) d k),
-        search_best (λ x rest. Weighs q (cells w) m x) (λ p. Unit) (Totalled (found s) r l) (found s) e
-            (next_weighs q m s.args.count s.requires.0.0.some w s.args.at (drop s.args.at s.args.draws.now))
-            (λ rest d h. totalled_best (found s) r l d u (total_after q (cells w) m b h k)),
-      ),
+      search_best (λ x rest. Pick s x) (λ p. Unit) (Weights (table s.args.squares.now m) m w (found s) l) (found s) e (picks s)
+          (λ rest d h. weights_best (table s.args.squares.now m) m w l (found s) d k),
     )
 
 pub centre-by-sums-spec : {M : Type 1} → statement M
@@ -111,8 +91,6 @@ centre-by-sums-spec =
     row-of-requires
     keep-lesser-requires
     same_length
-    same-length-2
     returns
-    same-length-3
-    same-length-4
+    same-length-2
     returns-2)

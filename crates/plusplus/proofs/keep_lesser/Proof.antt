@@ -1,34 +1,24 @@
-use Prim.Native.Nat.{◌-◌, ◌≤◌, ℕ}
+use Prim.Native.Nat.{◌-◌, ◌≤◌}
 use mathlib.Core.Path.{◌∙◌, ◌≡◌, ap, refl}
-use mathlib.Core.List.{List}
 use native.Mathlib.Omega.{arith}
-use lib.ListN.{length, length-set}
-use lib.Ieee.{Float, add, binary64, nan, of_bits}
-use Rattle.lists.specs.Lists.{cells, listed}
-use Rattle.lists.specs.Sums.{sum_to}
-use Rattle.lists.proofs.Sums.{sum_more}
-use Rattle.lists.proofs.Listed.{writes, writes_done, writes_next, writes_one}
-use Rattle.plusplus_pick.specs.Potentials.{lesser_number, running}
-use Rattle.plusplus_pick.proofs.Picks.{running_more}
-use Rattle.plusplus_trials.proofs.Totals.{running_listed}
+use lib.ListN.{length, length-set, set}
+use lib.Ieee.{nan}
+use borrow.Author.Rules.{rules}
+use Rattle.lists.specs.Lists.{cells}
+use Rattle.lists.proofs.Listed.{writes, writes_done, writes_step}
+use Rattle.plusplus_pick.specs.Potentials.{lesser_number}
 use Rattle.plusplus.proofs.keep_lesser.Statement.{statement}
 use Rattle.plusplus.proofs.keep_lesser.Tie as tie
 
--- the weight that is kept
-abbrev kept : List Float → List Float → ℕ → Float
-kept weights squares k = lesser_number (cells weights k) (cells squares k)
-
 abbrev invariant-loop : tie.invariant-loop
-invariant-loop weights₀ squares sums₀ m sum₀ i₀ weights sums sum i =
-    (m ≡ length weights₀) × (i ≤ m) × (length weights ≡ m) × (length sums ≡ m)
-    × (weights ≡ writes (kept weights₀ squares) i weights₀) × (sum ≡ sum_to (kept weights₀ squares) i) × (sums ≡ writes (running (kept weights₀ squares)) i sums₀)
+invariant-loop weights₀ squares m i₀ weights i = (m ≡ length weights₀) × (i ≤ m) × (length weights ≡ m) × (weights ≡ writes (λ k. lesser_number (cells weights₀ k) (cells squares k)) i weights₀)
 
 abbrev decreases-loop : tie.decreases-loop
-decreases-loop weights₀ squares sums₀ m sum₀ i₀ weights sums sum i = m - i
+decreases-loop weights₀ squares m i₀ weights i = m - i
 
 loop-holds : tie.Need-loop-init invariant-loop decreases-loop
-unfolding sum_to writes of_bits
-loop-holds c = (refl, omega arith, refl, c.before.before.before.requires.1, refl, refl, refl)
+unfolding writes
+loop-holds c = (refl, omega arith, refl, refl)
 
 mul-lesser-number : tie.Need-overflow-mul-lesser-number invariant-loop decreases-loop
 mul-lesser-number c = omega arith
@@ -51,12 +41,6 @@ mul-weights c = omega arith
 slice-write-weights : tie.Need-slice-write-weights invariant-loop decreases-loop
 slice-write-weights c = omega arith
 
-mul-sums : tie.Need-overflow-mul-sums invariant-loop decreases-loop
-mul-sums c = omega arith
-
-slice-write-sums : tie.Need-slice-write-sums invariant-loop decreases-loop
-slice-write-sums c = omega (arith, c.before.before.before.before.loop.invariant.3)
-
 add-i : tie.Need-overflow-add-i invariant-loop decreases-loop
 add-i c = omega arith
 
@@ -65,34 +49,19 @@ loop-less c = omega arith
 
 loop-again : tie.Need-loop-preserved invariant-loop decreases-loop
 loop-again c =
-    let a = c.before.before.before.before.before.before.before.before.args in
-    let l = c.before.before.before.before.loop in
-    let f : ℕ → Float = kept a.weights.now a.squares.now in
-    let v : c.lesser_number_lem.result ≡ f l.i = c.lesser_number_lem.ensures ∙ ap (λ (x : Float). lesser_number x (cells a.squares.now l.i)) (writes_next nan f l.i a.weights.now l.invariant.4) in (
+    let a = c.before.before.before.before.before.before.before.args in
+    let l = c.before.before.before.before.loop in (
       refl,
       omega arith,
-      simp length-set l.invariant.2,
-      simp length-set l.invariant.3,
-      writes_one f l.i a.weights.now l.invariant.4 v,
-      ap (add binary64 l.sum) v ∙ sum_more f l.i l.invariant.5,
-      writes_one (running f) l.i a.sums.now l.invariant.6 (ap (add binary64 l.sum) v ∙ running_more f l.i l.invariant.5),
+      simp length-set (omega arith),
+      ap (set l.weights l.i) c.lesser_number_lem.ensures ∙ writes_step nan (λ s k. lesser_number s (cells a.squares.now k)) l.i a.weights.now l.invariant.3,
     )
 
 same_length : tie.Need-same-length invariant-loop decreases-loop
-same_length c = c.before.loop.invariant.2
-
-same-length-2 : tie.Need-same-length-2 invariant-loop decreases-loop
-same-length-2 c = omega (arith, c.before.loop.invariant.3, c.before.before.before.before.before.requires.1)
+same_length c = search rules
 
 returns : tie.Need-returns invariant-loop decreases-loop
-returns c =
-    let a = c.before.before.before.before.before.args in
-    let l = c.before.loop in
-    let n = length a.weights.now in
-    let f : ℕ → Float = kept a.weights.now a.squares.now in
-    let e : l.i ≡ n = omega arith in
-    let w : l.weights ≡ listed f n = writes_done nan f l.i n a.weights.now l.invariant.4 e refl in
-    (w, running_listed f n w (writes_done nan (running f) l.i n a.sums.now l.invariant.6 e c.before.before.before.before.before.requires.1))
+returns c = writes_done nan _ _ _ _ c.before.loop.invariant.3 (omega arith) refl
 
 pub keep-lesser-spec : {M : Type 1} → statement M
 keep-lesser-spec =
@@ -108,11 +77,8 @@ keep-lesser-spec =
     lesser-number-requires
     mul-weights
     slice-write-weights
-    mul-sums
-    slice-write-sums
     add-i
     loop-less
     loop-again
     same_length
-    same-length-2
     returns)

@@ -7,12 +7,11 @@ use lib.Ieee.{Float}
 use borrow.Author.Rules.{rules}
 use Rattle.draws.specs.Draws.{Drawn, drawn}
 use Rattle.plusplus_trials.specs.Trials.{next_of, table, tried_of}
-use Rattle.plusplus_pick.specs.Potentials.{RunningSums, with}
+use Rattle.plusplus_pick.specs.Potentials.{with}
 use Rattle.rng_std.specs.States.{key_in}
 use Rattle.rng_std.specs.Words.{word_of}
-use Rattle.plusplus.specs.Seeding.{Totalled, Weights}
+use Rattle.plusplus.specs.Seeding.{Weights}
 use Rattle.lists.specs.Lists.{cells, listed}
-use Rattle.lists.specs.Sums.{sum_to}
 use Rattle.rng_std.proofs.Ranges.{word_below}
 use Rattle.plusplus_seeded.specs.Seeded.{centre_draws, centre_rule, draws_by, pick_of, place_of, rule_of}
 use Rattle.plusplus_seeded.proofs.Fine.{pick_fine}
@@ -24,37 +23,37 @@ use Rattle.plusplus_seeded.proofs.next_from.Tie as tie
 
 -- the words, the items, the draws of a centre, and what they find
 abbrev words : tie.After-centre-by-sums → ℕ → ℕ
-words c = word_of (key_in c.before.before.before.before.before.before.before.before.before.before.before.before.before.before.before.before.args.rng.now)
+words c = word_of (key_in c.before.before.before.before.before.before.before.before.before.before.before.before.before.before.before.before.before.before.before.before.before.args.rng.now)
 
 abbrev squared : tie.After-centre-by-sums → ℕ → ℕ → Float
-squared c = table c.before.before.before.before.before.before.before.before.before.before.before.before.before.before.before.before.args.squares.now (length c.before.before.before.before.before.before.before.before.before.before.before.before.before.before.before.before.args.weights.now)
+squared c = table c.before.before.before.before.before.before.before.before.before.before.before.before.before.before.before.before.before.before.before.before.before.args.squares.now (length c.before.before.before.before.before.before.before.before.before.before.before.before.before.before.before.before.before.before.before.before.before.args.weights.now)
 
 abbrev items : tie.After-centre-by-sums → ℕ
-items c = length c.before.before.before.before.before.before.before.before.before.before.before.before.before.before.before.before.args.weights.now
+items c = length c.before.before.before.before.before.before.before.before.before.before.before.before.before.before.before.before.before.before.before.before.before.args.weights.now
 
 abbrev trials : tie.After-centre-by-sums → ℕ
-trials c = length c.before.before.before.before.before.before.before.before.before.before.before.before.before.before.before.before.args.draws.now
+trials c = length c.before.before.before.before.before.before.before.before.before.before.before.before.before.before.before.before.before.before.before.before.before.args.draws.now
 
 abbrev given_draws : tie.After-centre-by-sums → List ℕ
-given_draws c = centre_draws (words c) (squared c) (items c) (trials c) c.before.before.before.before.before.before.before.before.before.before.before.before.before.before.before.before.args.weights.now c.before.before.before.before.before.before.before.before.before.before.before.before.before.before.before.before.args.taken
+given_draws c = centre_draws (words c) (squared c) (items c) (trials c) c.before.before.before.before.before.before.before.before.before.before.before.before.before.before.before.before.before.before.before.before.before.args.weights.now c.before.before.before.before.before.before.before.before.before.before.before.before.before.before.before.before.before.before.before.before.before.args.taken
 
 abbrev search-of : tie.After-centre-by-sums → List ℕ → Drawn Trial
-search-of c ds = next_of (squared c) (items c) (trials c) c.before.before.before.before.before.before.before.before.before.before.before.before.before.before.before.before.args.weights.now 0 ds
+search-of c ds = next_of (squared c) (items c) (trials c) c.before.before.before.before.before.before.before.before.before.before.before.before.before.before.before.before.before.before.before.before.before.args.weights.now 0 ds
 
 draws_are : (c : tie.After-centre-by-sums) → c.before.before.before.before.before.before.before.before.draw-all.new.1.1.1.1.0 ≡ given_draws c
 draws_are c =
     c.before.before.before.before.before.before.before.before.draw-all.ensures.0
-    ∙ ap (λ (x : Float). draws_by (rule_of (words c) x (items c)) (trials c) c.before.before.before.before.before.before.before.before.before.before.before.before.before.before.before.before.args.taken) c.before.before.before.before.before.before.before.before.before.before.before.before.before.before.before.before.requires.1.2
+    ∙ ap (λ (x : Float). draws_by (rule_of (words c) x (items c)) (trials c) c.before.before.before.before.before.before.before.before.before.before.before.before.before.before.before.before.before.before.before.before.before.args.taken) c.before.before.before.before.before.before.before.before.before.before.before.before.before.sum-weights.ensures.0
 
-taken-are : (c : tie.After-centre-by-sums) → c.before.before.before.before.before.before.before.before.draw-all.result ≡ place_of (centre_rule (words c) (squared c) (items c) (trials c) c.before.before.before.before.before.before.before.before.before.before.before.before.before.before.before.before.args.weights.now) (trials c) c.before.before.before.before.before.before.before.before.before.before.before.before.before.before.before.before.args.taken
+taken-are : (c : tie.After-centre-by-sums) → c.before.before.before.before.before.before.before.before.draw-all.result ≡ place_of (centre_rule (words c) (squared c) (items c) (trials c) c.before.before.before.before.before.before.before.before.before.before.before.before.before.before.before.before.before.before.before.before.before.args.weights.now) (trials c) c.before.before.before.before.before.before.before.before.before.before.before.before.before.before.before.before.before.before.before.before.before.args.taken
 taken-are c =
     c.before.before.before.before.before.before.before.before.draw-all.ensures.1
-    ∙ ap (λ (x : Float). place_of (rule_of (words c) x (items c)) (trials c) c.before.before.before.before.before.before.before.before.before.before.before.before.before.before.before.before.args.taken) c.before.before.before.before.before.before.before.before.before.before.before.before.before.before.before.before.requires.1.2
+    ∙ ap (λ (x : Float). place_of (rule_of (words c) x (items c)) (trials c) c.before.before.before.before.before.before.before.before.before.before.before.before.before.before.before.before.before.before.before.before.before.args.taken) c.before.before.before.before.before.before.before.before.before.before.before.before.before.sum-weights.ensures.0
 
 fine : (c : tie.After-centre-by-sums)
     → (b : Trial) × (search-of c (given_draws c) ≡ drawn b []) × (pick_of (search-of c (given_draws c)) ≡ b.pick)
 fine c =
-    let s = c.before.before.before.before.before.before.before.before.before.before.before.before.before.before.before.before in
+    let s = c.before.before.before.before.before.before.before.before.before.before.before.before.before.before.before.before.before.before.before.before.before in
     let some : 0 < length s.args.draws.now = omega (arith, s.requires.1.0) in
     let f = pick_fine (squared c) (items c) (trials c) s.args.weights.now (given_draws c) some
     (centre_long (words c) (word_below (key_in s.args.rng.now)) (squared c) (items c) (trials c) s.requires.0.1.some some s.args.weights.now s.args.taken)
@@ -64,23 +63,19 @@ fine c =
 found : (c : tie.After-centre-by-sums) → c.centre-by-sums.result ≡ Best (fine c).0
 found c = c.centre-by-sums.ensures.0 ∙ ap (λ (l : List ℕ). tried_of (search-of c l)) (draws_are c) ∙ ap tried_of (fine c).1
 
-weights-are : (c : tie.After-centre-by-sums) → c.centre-by-sums.new.1.0 ≡ listed (with (squared c) (cells c.before.before.before.before.before.before.before.before.before.before.before.before.before.before.before.before.args.weights.now) (fine c).0.pick) (items c)
+weights-are : (c : tie.After-centre-by-sums) → c.centre-by-sums.new.1.0 ≡ listed (with (squared c) (cells c.before.before.before.before.before.before.before.before.before.before.before.before.before.before.before.before.before.before.before.before.before.args.weights.now) (fine c).0.pick) (items c)
 weights-are c =
-    subst (λ (D : Drawn Trial). Weights (squared c) (items c) c.before.before.before.before.before.before.before.before.before.before.before.before.before.before.before.before.args.weights.now D c.centre-by-sums.new.1.0)
-    (ap (search-of c) (draws_are c) ∙ (fine c).1) c.centre-by-sums.ensures.1.0
+    subst (λ (D : Drawn Trial). Weights (squared c) (items c) c.before.before.before.before.before.before.before.before.before.before.before.before.before.before.before.before.before.before.before.before.before.args.weights.now D c.centre-by-sums.new.1.0)
+    (ap (search-of c) (draws_are c) ∙ (fine c).1) c.centre-by-sums.ensures.1
 
-totals-are : (c : tie.After-centre-by-sums)
-    → RunningSums c.centre-by-sums.new.1.1.0 c.centre-by-sums.new.1.0 × ((fine c).0.potential ≡ sum_to (cells c.centre-by-sums.new.1.0) (length c.centre-by-sums.new.1.0))
-totals-are c =
-    subst (λ (D : Drawn Trial). Totalled D c.centre-by-sums.new.1.1.0 c.centre-by-sums.new.1.0) (ap (search-of c) (draws_are c) ∙ (fine c).1) c.centre-by-sums.ensures.1.1
+sum-weights-requires : tie.Need-sum-weights-requires
+sum-weights-requires c κs = c.before.before.before.before.before.before.before.requires.1.1
 
 draw-all-requires : tie.Need-draw-all-requires
-draw-all-requires c κs = (c.before.before.before.before.before.before.before.requires.0.1, c.before.before.before.before.before.before.before.requires.0.2)
+draw-all-requires c κs = (c.before.before.before.before.before.before.before.before.before.before.before.before.requires.0.1, c.before.before.before.before.before.before.before.before.before.before.before.before.requires.0.2)
 
 centre-by-sums-requires : tie.Need-centre-by-sums-requires
-centre-by-sums-requires c κs =
-    let p = c.before.before.before.before.before.before.before.before.before.before.before.before.before.before.before.requires in
-    ((p.0.0, p.1.1, p.1.2), (p.1.0, omega (arith, c.before.before.before.before.before.before.before.draw-all.auto.1.1.1.1.0)))
+centre-by-sums-requires c κs = ((c.before.before.before.before.before.before.before.before.before.before.before.before.before.before.before.before.before.before.before.before.requires.0.0, c.before.before.before.before.before.before.before.before.before.before.before.before.sum-weights.ensures.1, c.before.before.before.before.before.before.before.before.before.before.before.before.sum-weights.ensures.0), (c.before.before.before.before.before.before.before.before.before.before.before.before.before.before.before.before.before.before.before.before.requires.1.0, omega (arith, c.before.before.before.before.before.before.before.draw-all.auto.1.1.1.1.0)))
 
 enum-known-s : tie.Need-enum-known-s
 enum-known-s c = search rules
@@ -102,9 +97,9 @@ same-length-4 c = search rules
 
 returns : tie.Need-returns
 returns c =
-    let b = (fine c.before.before.before.before.before.before.before).0 in
+    let b = (fine c.before.before.before.before.before).0 in
     let s = c.before.s.given.0.0 in
-    let e : Stopped s ≡ Best b = sym c.before.s.given.1 ∙ found c.before.before.before.before.before.before.before in
+    let e : Stopped s ≡ Best b = sym c.before.s.given.1 ∙ found c.before.before.before.before.before in
     let z : ◌≡◌ {A = ℕ} 0 1 = cc in
     absurd (omega arith)
 
@@ -122,24 +117,18 @@ same-length-8 c = search rules
 
 returns-2 : tie.Need-returns-2
 returns-2 c =
-    let v = c.before.before.before.before.before.before.before in
-    let x = (fine v).0 in
+    let x = (fine c.before.before.before.before.before).0 in
     let b = c.before.b.given.0.0 in
-    let e : Best b ≡ Best x = sym c.before.b.given.1 ∙ found v in
+    let e : Best b ≡ Best x = sym c.before.b.given.1 ∙ found c.before.before.before.before.before in
     let d : b ≡ x = cc in
     let p : b.pick ≡ x.pick = ap (λ (y : Trial). y.pick) d in
-    let t : b.potential ≡ x.potential = ap (λ (y : Trial). y.potential) d in (
-      p ∙ sym (fine v).2,
-      (
-        weights-are v ∙ ap (λ (y : ℕ). listed (with (squared v) (cells c.before.before.before.before.before.before.before.before.before.before.before.before.before.before.before.before.before.before.before.before.before.before.before.args.weights.now) y) (items v)) (sym p),
-        ((taken-are v, c.before.before.before.before.before.before.before.before.before.before.before.before.before.before.before.draw-all.ensures.2), ((totals-are v).0, t ∙ (totals-are v).1)),
-      ),
-    )
+    (p ∙ sym (fine c.before.before.before.before.before).2, (weights-are c.before.before.before.before.before ∙ ap (λ (y : ℕ). listed (with (squared c.before.before.before.before.before) (cells c.before.before.before.before.before.before.before.before.before.before.before.before.before.before.before.before.before.before.before.before.before.before.before.before.before.before.args.weights.now) y) (items c.before.before.before.before.before)) (sym p), (taken-are c.before.before.before.before.before, c.before.before.before.before.before.before.before.before.before.before.before.before.before.draw-all.ensures.2)))
 
 pub next-from-spec : {M : Type 1} → statement M
 next-from-spec =
     tie.close
     (tie.spec
+    sum-weights-requires
     draw-all-requires
     centre-by-sums-requires
     enum-known-s

@@ -39,7 +39,7 @@ enum-known-d : tie.Need-enum-known-d
 enum-known-d c = search rules
 
 try-draw-requires : tie.Need-try-draw-requires
-try-draw-requires c κs = (c.before.before.before.before.before.before.before.before.before.before.requires.0, (draw_value (top c.before.before.before.before.before.before.before.before.before.before) c.before.before.before.before.before.before.before.before.before.before.args.draws.now c.before.before.before.before.before.before.before.before.before.before.args.from (omega (arith, c.before.before.before.before.before.if1.false, c.before.before.before.before.before.before.before.before.before.before.requires.1.1)) (sym (answer_is c.before.before.before) ∙ c.before.d.given.1)).0)
+try-draw-requires c κs = ((c.before.before.before.before.before.before.before.before.before.before.requires.0.0, c.before.before.before.before.before.before.before.before.before.before.requires.0.1), (draw_value (top c.before.before.before.before.before.before.before.before.before.before) c.before.before.before.before.before.before.before.before.before.before.args.draws.now c.before.before.before.before.before.before.before.before.before.before.args.from (omega (arith, c.before.before.before.before.before.if1.false, c.before.before.before.before.before.before.before.before.before.before.requires.1.1)) (sym (answer_is c.before.before.before) ∙ c.before.d.given.1)).0)
 
 better-requires : tie.Need-better-requires
 better-requires c κs = tt

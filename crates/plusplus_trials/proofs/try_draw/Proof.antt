@@ -22,13 +22,13 @@ pick-requires c κs = rw (summed_length c.before.before.before.args.sums.now c.b
 row-of-requires : tie.Need-row-of-requires
 row-of-requires c κs = let p = c.before.before.before.before.requires.0.0 in (p.few, omega (arith, p.square), below c)
 
-potential-by-requires : tie.Need-potential-by-requires
-potential-by-requires c κs = (rw c.row_of.ensures (row_long c.before.before.before.before.before.args.squares.now (length c.before.before.before.before.before.args.weights.now) c.before.pick.result (omega (arith, c.before.before.before.before.before.requires.0.0.square)) (below c.before)), c.before.before.before.before.before.requires.0.2)
+potential-requires : tie.Need-potential-requires
+potential-requires c κs = rw c.row_of.ensures (row_long c.before.before.before.before.before.args.squares.now (length c.before.before.before.before.before.args.weights.now) c.before.pick.result (omega (arith, c.before.before.before.before.before.requires.0.0.square)) (below c.before))
 
 returns : tie.Need-returns
 returns c =
-    let e = c.potential-by.ensures in
+    let e = c.potential.ensures in
     rw (e, c.before.row_of.ensures, picked c.before.before)
 
 pub try-draw-spec : {M : Type 1} → statement M
-try-draw-spec = tie.close (tie.spec pick-requires row-of-requires potential-by-requires returns)
+try-draw-spec = tie.close (tie.spec pick-requires row-of-requires potential-requires returns)
