@@ -1,5 +1,6 @@
 // A double and its bits, at every pattern and every value.
 #![tactic(auto)]
+
 ghost use Rattle.std.specs.Prelude.{◌≡◌};
 ghost use Rattle.bits.specs.Bits.{double_of, bits_of};
 

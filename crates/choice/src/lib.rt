@@ -1,11 +1,12 @@
 // The choice between two candidates, and between the old partition and the new one.
 #![tactic(auto)]
+
 ghost use Rattle.std.specs.Prelude.{◌≡◌, ◌<◌, length};
 ghost use Rattle.choice.specs.Choice.{chosen};
 ghost use Rattle.choice.specs.Replaces.{replaces_kept};
 
 // The t-stat and the plain mean of the best candidate so far, if there is one. Its labels and scores stand in lent lists.
-#[derive(Drop)]
+#[derive(Clone, Copy)]
 pub enum Kept {
     Nothing,
     Candidate(f64, f64),
@@ -36,7 +37,7 @@ pub fn check_improve_clusters<'a>(
     old_list: &'a [usize],
     new_list: &'a [usize],
 ) -> &'a [usize]
-    ensures { result ≡ chosen new_tstat_mean mean_redo_tstat old_list.entry new_list.entry }
+    ensures { result ≡ chosen new_tstat_mean mean_redo_tstat old_list new_list }
 {
     if new_tstat_mean > mean_redo_tstat {
         new_list

@@ -1,6 +1,7 @@
 // Distances of a book of correlations, on plain lent lists and through a list of row numbers. A book that is read
 // through row numbers is read where it lies; only `submatrix` copies cells, to the list that the caller lends for them.
 #![tactic(auto)]
+
 ghost use Rattle.std.specs.Prelude.{◌≡◌, ◌<◌, ◌*◌, eqb, length};
 ghost use Rattle.lists.specs.Lists.{cells, listed, matrix_of, first_from};
 ghost use Rattle.refusals.specs.Table.{refusal_of, refusal};
@@ -106,9 +107,9 @@ pub fn corr_to_distance(book: &[f64], n: usize, out: &mut [f64]) -> Answer
 {
     let fits = refusals::is_square(out.len(), n);
     let answer = refusals::check(book.len(), n, n, fits, 0, 0);
-    if refusals::number_of(answer) != 0 {
+    let Answer::Done = answer else {
         return answer;
-    }
+    };
     distances_of(book, out);
     answer
 }
@@ -118,9 +119,9 @@ pub fn corr_to_distance_through(book: &[f64], n: usize, rows: &[usize], out: &mu
     ensures { record { answer = refusal_of result; out = out.new } ≡ leaves.corr_to_distance_through book.now n rows.now out.old }
 {
     let answer = check_rows(book.len(), n, rows, out.len());
-    if refusals::number_of(answer) != 0 {
+    let Answer::Done = answer else {
         return answer;
-    }
+    };
     fill_distances(book, n, rows, out);
     answer
 }
@@ -130,9 +131,9 @@ pub fn submatrix(book: &[f64], n: usize, rows: &[usize], out: &mut [f64]) -> Ans
     ensures { record { answer = refusal_of result; out = out.new } ≡ leaves.submatrix_of book.now n rows.now out.old }
 {
     let answer = check_rows(book.len(), n, rows, out.len());
-    if refusals::number_of(answer) != 0 {
+    let Answer::Done = answer else {
         return answer;
-    }
+    };
     fill_cells(book, n, rows, out);
     answer
 }

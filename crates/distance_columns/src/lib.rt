@@ -1,6 +1,7 @@
 // Squared distances from one item to all, for all items at a time: column by column, four columns a turn, and contiguous
 // over the items. Each item's sum keeps the order of the columns.
 #![tactic(auto)]
+
 ghost use Rattle.std.specs.Prelude.{◌≡◌, ◌≤◌, ◌<◌, ◌+◌, ◌-◌, ◌*◌, length};
 ghost use Rattle.lists.specs.Lists.{listed, cells, part};
 ghost use Rattle.distance_columns.specs.Columns.{added, added_four, Tail, sums_from};

@@ -1,5 +1,6 @@
 // Draws: how many a seeding and a round take, taking one from a list, a share, and what can end a run.
 #![tactic(auto)]
+
 ghost use Rattle.std.specs.Prelude.{◌≡◌, ◌+◌, ◌<◌, ◌≤◌, length, drop};
 ghost use Rattle.draws.specs.Counts.{trials_of, seeding_of, tries, count_of};
 ghost use Rattle.draws.specs.Bounds.{later_of};
@@ -8,7 +9,7 @@ ghost use Rattle.draws.specs.Stops.{stop_number, stop_place, draw_of};
 
 // What can end a run: a 33rd round, too few draws (with the draws read so far), a draw out of range (with its place). By the
 // definition a round without a candidate would too, but no call has one: 3 is never returned (crates/onc/specs/Certain.antt).
-#[derive(Drop)]
+#[derive(Clone, Copy)]
 pub enum Stop {
     Rounds,
     Short(usize),

@@ -24,7 +24,7 @@ pub extern "C" fn onc_get_onc_clusters_with_draws(
       number = result;
       answer = answer.new;
       lists = record {
-        order = order.exit.now;
+        order = order.new;
         sizes = sizes.new;
         scores = scores.new;
         ordered = ordered.new;
@@ -33,7 +33,7 @@ pub extern "C" fn onc_get_onc_clusters_with_draws(
       };
     }
         ≡ grouping_reported (shape_of repeat rows cols (length book.now) false) (group_of book.now rows cols repeat draws.now (record {
-          order = order.entry.now;
+          order = order.old;
           sizes = sizes.old;
           scores = scores.old;
           ordered = ordered.old;
@@ -41,7 +41,7 @@ pub extern "C" fn onc_get_onc_clusters_with_draws(
           numbers = numbers.old;
         }))
         answer.old (record {
-          order = order.entry.now;
+          order = order.old;
           sizes = sizes.old;
           scores = scores.old;
           ordered = ordered.old;
@@ -79,7 +79,7 @@ pub extern "C" fn onc_get_onc_clusters_with_seed(
       number = result;
       answer = answer.new;
       lists = record {
-        order = order.exit.now;
+        order = order.new;
         sizes = sizes.new;
         scores = scores.new;
         ordered = ordered.new;
@@ -88,7 +88,7 @@ pub extern "C" fn onc_get_onc_clusters_with_seed(
       };
     }
         ≡ grouping_reported (shape_of repeat rows cols (length book.now) false) (seeded_of book.now rows cols repeat seed (record {
-          order = order.entry.now;
+          order = order.old;
           sizes = sizes.old;
           scores = scores.old;
           ordered = ordered.old;
@@ -96,7 +96,7 @@ pub extern "C" fn onc_get_onc_clusters_with_seed(
           numbers = numbers.old;
         }))
         answer.old (record {
-          order = order.entry.now;
+          order = order.old;
           sizes = sizes.old;
           scores = scores.old;
           ordered = ordered.old;
@@ -133,7 +133,7 @@ pub extern "C" fn onc_get_onc_clusters(
       number = result;
       answer = answer.new;
       lists = record {
-        order = order.exit.now;
+        order = order.new;
         sizes = sizes.new;
         scores = scores.new;
         ordered = ordered.new;
@@ -142,7 +142,7 @@ pub extern "C" fn onc_get_onc_clusters(
       };
     }
         ≡ grouping_reported (shape_of repeat rows cols (length book.now) false) (seeded_of book.now rows cols repeat default_seed (record {
-          order = order.entry.now;
+          order = order.old;
           sizes = sizes.old;
           scores = scores.old;
           ordered = ordered.old;
@@ -150,7 +150,7 @@ pub extern "C" fn onc_get_onc_clusters(
           numbers = numbers.old;
         }))
         answer.old (record {
-          order = order.entry.now;
+          order = order.old;
           sizes = sizes.old;
           scores = scores.old;
           ordered = ordered.old;

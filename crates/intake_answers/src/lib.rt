@@ -4,7 +4,7 @@ ghost use Rattle.std.specs.Prelude.{◌≡◌};
 ghost use Rattle.intake_answers.specs.Answers.{number_of, place_of};
 
 // A proper book, or the first row of the table that applies. The last three hold the cell's place, row times n plus column.
-#[derive(Drop)]
+#[derive(Clone, Copy)]
 pub enum Intake {
     Proper,
     InvalidCorrelationMatrix,

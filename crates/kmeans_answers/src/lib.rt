@@ -11,7 +11,7 @@ use draws::Stop;
 use refusals::Answer;
 
 // Done, with the draws read; or the first row of the table that applies.
-#[derive(Drop)]
+#[derive(Clone, Copy)]
 pub enum Kmeans {
     Done(usize),
     InvalidCorrelationMatrix,

@@ -1,6 +1,7 @@
 // The members of groups by the labels of all items: how many each has, in which they changed, and the first one.
 // A label is compared with the length before it is used as an index, so nothing is asked of the labels.
 #![tactic(auto)]
+
 ghost use Rattle.std.specs.Prelude.{◌≡◌, cond, eqb, length};
 ghost use Rattle.lists.specs.Lists.{listed, numbers, first_to};
 ghost use Rattle.lists.specs.Sums.{in_group, group_size};

@@ -1,5 +1,6 @@
 // The nearest of some centroids for each item, and the farthest item.
 #![tactic(auto)]
+
 ghost use Rattle.std.specs.Prelude.{◌≡◌, cond, ◌<◌, ◌≤◌, ◌*◌, length};
 ghost use Rattle.std.specs.Float.Ieee.{lt};
 ghost use Rattle.lists.specs.Lists.{listed, row, cells, numbers};

@@ -3,6 +3,7 @@
 // centroid l: the mean of the members of group l, the item that it takes if it is empty, or the item that it starts from. Inner forms, all functions
 // here.
 #![tactic(auto)]
+
 ghost use Rattle.std.specs.Prelude.{◌≡◌, ℕ, ◌<◌, ◌*◌, length, take, set, true};
 ghost use Rattle.std.specs.Float.{inf};
 ghost use Rattle.lists.specs.Lists.{numbers};

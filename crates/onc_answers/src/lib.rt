@@ -6,7 +6,7 @@ ghost use Rattle.onc_answers.specs.Answers.{number_of, place_of, groups_of, read
 use draws::Stop;
 
 // A grouping, with the number of its groups and the draws read; or the first row of the table of refusals that applies.
-#[derive(Drop)]
+#[derive(Clone, Copy)]
 pub enum Onc {
     Grouped { groups: usize, draws: usize },
     InvalidRepeat,

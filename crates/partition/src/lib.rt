@@ -1,6 +1,7 @@
 // Groups from labels and labels from groups. A partition stands in two lists of as many places as there are items: the order has the
 // groups one after the other, the sizes how many members each has. Inner forms, for the rounds.
 #![tactic(auto)]
+
 ghost use Rattle.std.specs.Prelude.{◌≡◌, cond, ℕ, ◌≤◌, ◌<◌, ◌+◌, length};
 ghost use Rattle.lists.specs.Lists.{listed, numbers, put};
 ghost use Rattle.partition.specs.Partition.{members, groups_of, joined, has, label_of};

@@ -1,5 +1,6 @@
 // k-means++ seeding on a table of squared distances, with the draws in a lent list.
 #![tactic(auto)]
+
 ghost use Rattle.std.specs.Prelude.{◌≡◌, ◌<◌, ◌≤◌, ◌+◌, ◌-◌, ◌*◌, length, take, drop};
 ghost use Rattle.lists.specs.Lists.{cells, listed};
 ghost use Rattle.draws.specs.Counts.{trials_of, seeding_of};

@@ -1,6 +1,7 @@
 // What a draw picks as one centre more of k-means++, what the weights total with the pick as a centre too, and the better of two picks. Inner
 // forms, for the trials.
 #![tactic(auto)]
+
 ghost use Rattle.std.specs.Prelude.{◌≡◌, ◌<◌, length};
 ghost use Rattle.lists.specs.Lists.{cells};
 ghost use Rattle.lists.specs.Sums.{lesser, sum_to};

@@ -10,7 +10,7 @@ use Rattle.lists.specs.Lists.{cells, listed}
 use Rattle.lists.specs.Sums.{sum_to}
 use Rattle.lists.proofs.Listed.{get_d_listed, listed_length, listed_same}
 use Rattle.lists.proofs.Sums.{sum_same}
-use Rattle.draws.specs.Draws.{Drawn, takes, one_draw}
+use Rattle.draws.specs.Draws.{takes, one_draw}
 use Rattle.draws.proofs.Taken.{Ends, took, then_ends, ends_map, one_took}
 use Rattle.plusplus_pick.specs.declared.Trial.{Trial}
 use Rattle.plusplus_pick.specs.Potentials.{running, with, limit, trial, RunningSums}

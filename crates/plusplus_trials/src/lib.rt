@@ -1,5 +1,6 @@
 // One centre more of k-means++: trials of one draw each, and the best of them.
 #![tactic(auto)]
+
 ghost use Rattle.std.specs.Prelude.{◌≡◌, ◌<◌, ◌≤◌, ◌+◌, ◌-◌, length, drop};
 ghost use Rattle.lists.specs.Lists.{cells};
 ghost use Rattle.lists.specs.Sums.{sum_to};

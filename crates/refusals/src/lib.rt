@@ -1,11 +1,12 @@
 // What a call on lent lists answers, the checks that every such call makes, in the table's order, and what it leaves in
 // its working list of doubles.
 #![tactic(auto)]
+
 ghost use Rattle.std.specs.Prelude.{◌≡◌, false, ◌≤◌, ◌<◌, ◌*◌, leb, eqb, length};
 ghost use Rattle.refusals.specs.Table.{number_of, place_of, refusal_of, refusal, work_doubles, wiped, work_numbers};
 
 // Done, or the first row of the table that applies.
-#[derive(Drop)]
+#[derive(Clone, Copy)]
 pub enum Answer {
     Done,
     InvalidCorrelationMatrix,

@@ -1,8 +1,8 @@
 -- Four blocks in one list: words that are stored one after the other, and blocks.
-use Rattle.std.proofs.Common.{◌≡◌, ℕ, ◌+◌, ◌-◌, ◌*◌, ◌/◌, ◌%◌, ◌<◌, ◌≤◌, ◌⊎◌, List, length, set, sym, refl, ap, ◌∙◌, inl, inr, ⊎_elim, lt_of_not-le, arith, length-set, get_or-set_other, get_or-set_same}
+use Rattle.std.proofs.Common.{◌≡◌, ℕ, ◌+◌, ◌*◌, ◌/◌, ◌%◌, ◌<◌, ◌≤◌, ◌⊎◌, List, length, set, sym, refl, ap, ◌∙◌, inl, inr, ⊎_elim, lt_of_not-le, arith, length-set, get_or-set_other, get_or-set_same}
 use mathlib.Core.Logic.{by_cases}
 use native.Mathlib.Decide.{ℕ_discrete, dec_le}
-use Rattle.lists.specs.Lists.{listed, numbers}
+use Rattle.lists.specs.Lists.{numbers}
 use Rattle.lists.proofs.Listed.{listed_of, listed_same}
 use Rattle.rng_chacha.specs.Four.{four_of, Copied}
 

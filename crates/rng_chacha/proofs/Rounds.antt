@@ -1,5 +1,5 @@
 -- A round by its four quarter rounds: each word of the result is a word of one of them.
-use Rattle.std.proofs.Common.{◌≡◌, ℕ, List, [], ◌∷◌, length, sym, refl, ap, ◌∙◌}
+use Rattle.std.proofs.Common.{◌≡◌, ℕ, List, [], ◌∷◌, length, sym, ap, ◌∙◌}
 use Rattle.lists.specs.Lists.{listed, numbers}
 use Rattle.lists.proofs.Listed.{listed_cells}
 use Rattle.rng_chacha.specs.ChaCha.{quarter_of, words_at, quarter_at, columns_of, diagonals_of}

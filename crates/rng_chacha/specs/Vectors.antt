@@ -1,7 +1,6 @@
 -- Published vectors of the block function. Definitions only; `vectors` in proofs/Vectors.antt computes them of `block_of`.
 use Rattle.std.specs.Prelude.{◌≡◌, ℕ, ◌+◌, ◌*◌, ◌^◌, List, [], ◌∷◌}
 use Rattle.rng_chacha.specs.ChaCha.{quarter_of, start_of, block_of}
-use Rattle.rng_chacha.specs.declared.Quarter.{Quarter}
 
 -- the key 00 01 .. 1f of RFC 8439, 2.3.2, as words with the lower byte first
 abbrev pub key_of_rfc : List ℕ

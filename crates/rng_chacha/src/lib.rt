@@ -1,5 +1,6 @@
 // The ChaCha block function (RFC 8439, 2.1 to 2.3, with the number of rounds as a parameter, a counter of 64 bits and a stream of 64 bits).
 #![tactic(auto)]
+
 ghost use Rattle.std.specs.Prelude.{◌≡◌, ◌+◌, ◌^◌, ◌<◌, ◌≤◌, length};
 ghost use Rattle.rng_chacha.specs.ChaCha.{rotated, half_of, quarter_of, words_at, columns_of, diagonals_of, double_of, rounds_of, summed, start_of, block_of};
 ghost use Rattle.rng_chacha.specs.Four.{lane_of, Each, Stored, Copied, four_of};

@@ -1,12 +1,11 @@
 -- A generator's list: its words, its key, and the list with another chunk or with another key.
-use Rattle.std.proofs.Common.{◌≡◌, ℕ, ◌+◌, ◌*◌, ◌/◌, ◌%◌, ◌<◌, ◌≤◌, List, [], ◌∷◌, ◌++◌, length, take, drop, set, sym, refl, ap, ◌∙◌, arith, length-drop, length-set, get_or-drop, get_or-set_other, get_or-take, get_or-set_same, take_at, ext_get_or, drop_at}
+use Rattle.std.proofs.Common.{◌≡◌, ℕ, ◌+◌, ◌*◌, ◌/◌, ◌%◌, ◌<◌, ◌≤◌, List, [], ◌∷◌, ◌++◌, length, drop, set, sym, refl, ap, ◌∙◌, arith, length-drop, get_or-drop, get_or-set_other, get_or-take, get_or-set_same, take_at, ext_get_or, drop_at}
 use mathlib.Core.Logic.{by_cases}
 use native.Mathlib.Decide.{ℕ_discrete}
 use Rattle.lists.specs.Lists.{listed, numbers}
-use Rattle.lists.proofs.Listed.{get_d_listed, listed_of, length-listed}
+use Rattle.lists.proofs.Listed.{get_d_listed, listed_of}
 use Rattle.rng_chacha.specs.Four.{four_of}
 use Rattle.rng_chacha.specs.ChaCha.{block_of, start_of}
-use Rattle.rng_chacha.proofs.Fours.{four_same}
 use Rattle.rng_std.specs.Words.{words_of, word_of}
 use Rattle.rng_std.specs.States.{chunk_of, key_in, Filled, Holds, Moved}
 

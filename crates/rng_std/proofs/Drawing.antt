@@ -1,7 +1,6 @@
 -- A draw by the words that it takes: the word of each call, and the generator behind it.
-use Rattle.std.proofs.Common.{◌≡◌, ℕ, ◌+◌, ◌-◌, ◌*◌, ◌/◌, ◌%◌, ◌^◌, ◌<◌, ◌≤◌, true, false, leb, List, sym, refl, ap, ◌∙◌, subst, arith, le-leb}
+use Rattle.std.proofs.Common.{◌≡◌, ℕ, ◌+◌, ◌-◌, ◌*◌, ◌/◌, ◌%◌, ◌^◌, ◌<◌, ◌≤◌, true, false, leb, List, refl, ap, ◌∙◌, arith, le-leb}
 use borrow.Author.Tests.{lt-leb}
-use Rattle.rng_std.specs.declared.Drawn.{Drawn}
 use Rattle.rng_std.specs.Words.{word_of, index_from, share_from}
 use Rattle.rng_std.specs.States.{key_in, Moved, DrawnBy}
 

@@ -1,5 +1,5 @@
 -- A word is below 2 ^ 32, an index below its limit, a share below 2 ^ 53, and one or two words are taken for one draw.
-use Rattle.std.proofs.Common.{◌≡◌, ℕ, ◌+◌, ◌-◌, ◌*◌, ◌/◌, ◌%◌, ◌^◌, ◌<◌, ◌≤◌, Bool, true, false, cond, leb, List, sym, refl, ap, ◌∙◌, mul-le-mul_right, mod-lt, suc-mul, mul_comm, div-lt_iff_lt-mul, add-mul, arith}
+use Rattle.std.proofs.Common.{◌≡◌, ℕ, ◌+◌, ◌-◌, ◌*◌, ◌/◌, ◌%◌, ◌^◌, ◌<◌, ◌≤◌, Bool, true, false, cond, leb, List, refl, mul-le-mul_right, mod-lt, mul_comm, add-mul, arith}
 use Rattle.lists.specs.Lists.{numbers}
 use Rattle.lists.proofs.Listed.{get_d_listed}
 use Rattle.rng_chacha.specs.ChaCha.{plus, start_of, rounds_of, summed, block_of}

@@ -1,5 +1,6 @@
 // StdRng of rand 0.10: ChaCha with 12 rounds, its key from a number of 64 bits, and what is drawn from its words: an index and a share.
 #![tactic(auto)]
+
 ghost use Rattle.std.specs.Prelude.{◌≡◌, ◌+◌, ◌*◌, ◌/◌, ◌%◌, ◌^◌, ◌<◌, ◌≤◌, length};
 ghost use Rattle.rng_std.specs.Seeds.{advanced, output_of, key_of};
 ghost use Rattle.rng_std.specs.Words.{word_of, index_from, share_from};

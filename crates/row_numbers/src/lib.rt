@@ -1,5 +1,6 @@
 // The row numbers of an inner book and of the book above it, and the translation of the one into the other.
 #![tactic(auto)]
+
 ghost use Rattle.std.specs.Prelude.{◌≡◌, ℕ, ◌<◌, length};
 ghost use Rattle.lists.specs.Lists.{numbers};
 ghost use Rattle.row_numbers.specs.Rows.{rows_of};

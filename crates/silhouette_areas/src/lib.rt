@@ -18,7 +18,7 @@ fn scores_with(
 )
     requires prepared { Prepared area.now m × (length labels.now ≡ m) × (length scores.old ≡ m) × (k ≤ m) × ((i : ℕ) → i < m → numbers labels.now i < k) }
     requires sums_len { (length sums.old ≡ m) × (length own.old ≡ m) }
-    ensures { scores.new ≡ scores_of (points_at area.now m) m (numbers labels.now) }
+    ensures scored { scores.new ≡ scores_of (points_at area.now m) m (numbers labels.now) }
 {
     let from = 3 * (m * m);
     let end = 4 * (m * m);

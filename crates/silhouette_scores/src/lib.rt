@@ -1,5 +1,6 @@
 // Rousseeuw's silhouette of every item, for all items at a time: group by group, contiguous over the items.
 #![tactic(auto)]
+
 ghost use Rattle.std.specs.Prelude.{◌≡◌, cond, ◌&&◌, ℕ, ◌<◌, ◌≤◌, ◌+◌, ◌-◌, length, set};
 ghost use Rattle.std.specs.Float.{binary64};
 ghost use Rattle.std.specs.Float.Ieee.{add, div, eq, lt};

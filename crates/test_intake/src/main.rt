@@ -14,7 +14,7 @@ use intake_answers::Intake;
 use test_counts::Counts;
 
 // The sizes of a case, the word at which its expected answer starts, and the one at which the next case does.
-#[derive(Drop)]
+#[derive(Clone, Copy)]
 struct Case {
     rows: usize,
     cols: usize,

@@ -20,7 +20,7 @@ use kmeans_answers::Kmeans;
 use test_counts::Counts;
 
 // The sizes of a case, the word at which its expected answer starts, and the one at which the next case does.
-#[derive(Drop)]
+#[derive(Clone, Copy)]
 struct Case {
     leaf: u64,
     n: usize,

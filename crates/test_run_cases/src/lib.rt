@@ -8,7 +8,7 @@ ghost use Rattle.test_run_cases.specs.Cases.{case_at, same_answer, same_outputs}
 use onc_answers::Onc;
 
 // The sizes of a case, the word at which its expected answer starts, and the one at which the next case does.
-#[derive(Drop)]
+#[derive(Clone, Copy)]
 pub struct Case {
     pub rows: usize,
     pub cols: usize,

@@ -19,7 +19,7 @@ fn text_buffer() -> [u8; 524288]
 }
 
 // Where the text of a case starts, its length, and the length of what must be printed, which stands behind it.
-#[derive(Drop)]
+#[derive(Clone, Copy)]
 struct Case {
     first: usize,
     text: usize,

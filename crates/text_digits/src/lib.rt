@@ -1,5 +1,6 @@
 // Digits in ASCII, the bytes of a text by their place, and what ends a field of a line.
 #![tactic(auto)]
+
 ghost use Rattle.std.specs.Prelude.{◌≡◌, ◌<◌};
 ghost use Rattle.text_digits.specs.Digits.{byte_at, digit_of, digit_byte, stop_of};
 

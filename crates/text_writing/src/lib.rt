@@ -1,5 +1,6 @@
 // Bytes, numbers and words written to a list from a place on. Inner forms, for `text_answer`.
 #![tactic(auto)]
+
 ghost use Rattle.std.specs.Prelude.{◌≡◌, ◌+◌, ◌<◌, ◌≤◌, ◌++◌, ◌∷◌, [], length};
 ghost use Rattle.std.proofs.lemmas.List.Edits.{sets};
 ghost use Rattle.text_digits.specs.Digits.{digits_of, places_to, width_of, numeral, stop_of};

@@ -1,5 +1,6 @@
 // The t-statistic and the plain mean of a list of scores.
 #![tactic(auto)]
+
 ghost use Rattle.std.specs.Prelude.{◌≡◌, ◌≤◌, length};
 ghost use Rattle.lists.specs.Lists.{cells};
 ghost use Rattle.stats.specs.Average.{averaged_of, most_values};

@@ -1,0 +1,20 @@
+use Rattle.std.proofs.Common.{◌≡◌, length, sym, refl, arith, rules, le-leb}
+use borrow.Author.Tests.{lt-leb}
+use Rattle.lists.specs.Lists.{first_from, first_to}
+use Rattle.lists.proofs.First.{first_more, first_found}
+use Rattle.lists.proofs.first_from.Goals as goal
+
+pub loop-k-init : goal.loop-k-init
+unfolding first_to
+loop-k-init c = (refl, search rules, refl)
+
+pub returns-then-limit-xs : goal.returns-then-limit-xs
+unfolding first_from
+returns-then-limit-xs c = first_found _ _ _ c.loop-k.invariant.2 (le-leb _ _ c.if-limit-xs.true) (search rules)
+
+pub loop-k-preserved : goal.loop-k-preserved
+loop-k-preserved c = (search rules, search rules, first_more _ _ c.loop-k.invariant.2 (lt-leb _ _ c.if-limit-xs.false))
+
+pub returns : goal.returns
+unfolding first_from
+returns c = let e : c.loop-k.k ≡ length c.args.xs.now = omega arith in sym (rw e at c.loop-k.invariant.2)

@@ -1,0 +1,27 @@
+use mathlib.Core.Path.{◌∙◌, ◌≡◌, ap, refl}
+use native.Mathlib.Omega.{arith}
+use lib.ListN.{length}
+use lib.Ieee.{add, binary64, of_bits}
+use Rattle.lists.specs.Sums.{lesser, sum_to}
+use Rattle.lists.specs.Lists.{cells}
+use Rattle.lists.proofs.Sums.{sum_more}
+use Rattle.plusplus_pick.proofs.two_least.Goals as goal
+
+pub loop-i-init : goal.loop-i-init
+unfolding sum_to of_bits
+loop-i-init c = (refl, omega arith, refl, refl)
+
+pub loop-i-preserved : goal.loop-i-preserved
+loop-i-preserved c =
+    let s = c.args in
+    let l = c.loop-i in (
+      refl,
+      omega arith,
+      ap (add binary64 l.first) c.lesser-first.ensures ∙ sum_more (λ k. lesser (cells s.a.now k) (cells s.weights.now k)) l.i l.invariant.2,
+      ap (add binary64 l.second) c.lesser-second.ensures ∙ sum_more (λ k. lesser (cells s.b.now k) (cells s.weights.now k)) l.i l.invariant.3,
+    )
+
+pub returns : goal.returns
+returns c =
+    let e : c.loop-i.i ≡ length c.args.weights.now = omega arith in
+    (rw e at c.loop-i.invariant.2, rw e at c.loop-i.invariant.3)
