@@ -1,8 +1,8 @@
 // A book that is read through a list of row numbers, as a struct of the cells, their width and the row numbers. No cell is
 // copied. A function over it takes it apart and calls the covered form in `distance`; the last two make the struct from
-// plain lists, for callers that do not hold one. All but `book_of` say `return`: without it a call that gives nothing back is lowered in
-// another way than one that gives an answer, and would need a proof of its own (proofs/Walks.antt).
+// plain lists, for callers that do not hold one.
 #![tactic(auto)]
+
 ghost use Rattle.std.specs.Prelude.{◌≡◌, ◌<◌, ◌*◌, length};
 ghost use Rattle.lists.specs.Lists.{matrix_of};
 ghost use Rattle.refusals.specs.Table.{refusal_of};
@@ -21,7 +21,7 @@ pub struct Book<'a, 'b> {
 
 // The book that the rows make out of a book of n columns.
 pub fn book_of<'a, 'b>(cells: &'a [f64], n: usize, rows: &'b [usize]) -> Book<'a, 'b>
-    ensures { result ≡ record { cells = cells; n = n; rows = rows } }
+    ensures { result ≡ record { cells = cells.entry; n = n; rows = rows.entry } }
 {
     Book { cells, n, rows }
 }
@@ -29,7 +29,7 @@ pub fn book_of<'a, 'b>(cells: &'a [f64], n: usize, rows: &'b [usize]) -> Book<'a
 // Its distances, row by row. Inner form.
 pub fn fill_distances<'a, 'b>(b: Book<'a, 'b>, out: &mut [f64])
     requires { Readable b.cells.now b.n b.rows.now × (0 < length b.rows.now) × (length out.old ≡ length b.rows.now * length b.rows.now) }
-    ensures { out.new ≡ matrix_of (dist_at b.cells.now b.n b.rows.now) (length b.rows.now) }
+    ensures { out.new ≡ matrix_of (dist_at b.entry.cells.now b.entry.n b.entry.rows.now) (length b.entry.rows.now) }
 {
     return distance::fill_distances(b.cells, b.n, b.rows, out)
 }
@@ -37,21 +37,21 @@ pub fn fill_distances<'a, 'b>(b: Book<'a, 'b>, out: &mut [f64])
 // Its cells, row by row. Inner form.
 pub fn fill_cells<'a, 'b>(b: Book<'a, 'b>, out: &mut [f64])
     requires { Readable b.cells.now b.n b.rows.now × (0 < length b.rows.now) × (length out.old ≡ length b.rows.now * length b.rows.now) }
-    ensures { out.new ≡ matrix_of (cell_through b.cells.now b.n b.rows.now) (length b.rows.now) }
+    ensures { out.new ≡ matrix_of (cell_through b.entry.cells.now b.entry.n b.entry.rows.now) (length b.entry.rows.now) }
 {
     return distance::fill_cells(b.cells, b.n, b.rows, out)
 }
 
 // Its distances, row by row in `out`; a refusal leaves `out` as it was.
 pub fn corr_to_distance<'a, 'b>(b: Book<'a, 'b>, out: &mut [f64]) -> Answer
-    ensures { record { answer = refusal_of result; out = out.new } ≡ corr_to_distance_through b.cells.now b.n b.rows.now out.old }
+    ensures { record { answer = refusal_of result; out = out.new } ≡ corr_to_distance_through b.entry.cells.now b.entry.n b.entry.rows.now out.old }
 {
     return distance::corr_to_distance_through(b.cells, b.n, b.rows, out)
 }
 
 // The same of its cells.
 pub fn submatrix<'a, 'b>(b: Book<'a, 'b>, out: &mut [f64]) -> Answer
-    ensures { record { answer = refusal_of result; out = out.new } ≡ submatrix_of b.cells.now b.n b.rows.now out.old }
+    ensures { record { answer = refusal_of result; out = out.new } ≡ submatrix_of b.entry.cells.now b.entry.n b.entry.rows.now out.old }
 {
     return distance::submatrix(b.cells, b.n, b.rows, out)
 }

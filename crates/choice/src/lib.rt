@@ -37,7 +37,7 @@ pub fn check_improve_clusters<'a>(
     old_list: &'a [usize],
     new_list: &'a [usize],
 ) -> &'a [usize]
-    ensures { result ≡ chosen new_tstat_mean mean_redo_tstat old_list new_list }
+    ensures { result ≡ chosen new_tstat_mean mean_redo_tstat old_list.entry new_list.entry }
 {
     if new_tstat_mean > mean_redo_tstat {
         new_list

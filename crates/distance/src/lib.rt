@@ -107,9 +107,9 @@ pub fn corr_to_distance(book: &[f64], n: usize, out: &mut [f64]) -> Answer
 {
     let fits = refusals::is_square(out.len(), n);
     let answer = refusals::check(book.len(), n, n, fits, 0, 0);
-    let Answer::Done = answer else {
+    if refusals::number_of(answer) != 0 {
         return answer;
-    };
+    }
     distances_of(book, out);
     answer
 }
@@ -119,9 +119,9 @@ pub fn corr_to_distance_through(book: &[f64], n: usize, rows: &[usize], out: &mu
     ensures { record { answer = refusal_of result; out = out.new } ≡ leaves.corr_to_distance_through book.now n rows.now out.old }
 {
     let answer = check_rows(book.len(), n, rows, out.len());
-    let Answer::Done = answer else {
+    if refusals::number_of(answer) != 0 {
         return answer;
-    };
+    }
     fill_distances(book, n, rows, out);
     answer
 }
@@ -131,9 +131,9 @@ pub fn submatrix(book: &[f64], n: usize, rows: &[usize], out: &mut [f64]) -> Ans
     ensures { record { answer = refusal_of result; out = out.new } ≡ leaves.submatrix_of book.now n rows.now out.old }
 {
     let answer = check_rows(book.len(), n, rows, out.len());
-    let Answer::Done = answer else {
+    if refusals::number_of(answer) != 0 {
         return answer;
-    };
+    }
     fill_cells(book, n, rows, out);
     answer
 }

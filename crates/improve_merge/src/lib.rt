@@ -1,5 +1,6 @@
 // The weak groups of a partition, and the kept ones with those of the inner book behind them. Inner forms, for `improve_clusters` and the rounds.
 #![tactic(auto)]
+
 ghost use Rattle.std.specs.Prelude.{◌≡◌, length};
 ghost use Rattle.partition.specs.Orders.{cut, Sized};
 ghost use Rattle.quality.specs.Quality.{kept_groups};

@@ -1,5 +1,6 @@
 // What the check of a book in whole millionths answers, by the table of refusals.
 #![tactic(auto)]
+
 ghost use Rattle.std.specs.Prelude.{◌≡◌};
 ghost use Rattle.intake_answers.specs.Answers.{number_of, place_of};
 

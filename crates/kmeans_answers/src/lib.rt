@@ -1,5 +1,6 @@
 // What the k-means leaves answer, and what each of them does before it starts and after it ends.
 #![tactic(auto)]
+
 ghost use Rattle.std.specs.Prelude.{◌≡◌, ◌≤◌, ltb, length};
 ghost use Rattle.refusals.specs.Table as table;
 ghost use Rattle.refusals.specs.Table.{work_doubles, wiped, work_numbers, wiped_numbers};

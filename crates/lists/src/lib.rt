@@ -1,6 +1,7 @@
 // Filling, copying, searching, reading and summing of lent lists, and tests on doubles: what the crates above share.
 // The inner forms ask for the lengths, which their callers know.
 #![tactic(auto)]
+
 ghost use Rattle.std.specs.Prelude.{◌≡◌, ℕ, ◌+◌, ◌*◌, ◌<◌, ◌≤◌, false, length, replicate};
 ghost use Rattle.std.specs.Float.{inf};
 ghost use Rattle.std.specs.Float.Ieee.Scale.{finite};

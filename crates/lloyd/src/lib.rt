@@ -3,6 +3,7 @@
 // kept from pass to pass: only rows of groups whose members changed are worked out anew.
 // Inner forms, all functions here.
 #![tactic(auto)]
+
 ghost use Rattle.std.specs.Prelude.{◌≡◌, ◌*◌, length, take};
 ghost use Rattle.distance_columns.specs.Columns.{points_at};
 ghost use Rattle.lloyd_table.specs.Area.{Held, Centres};

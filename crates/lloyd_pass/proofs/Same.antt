@@ -13,7 +13,6 @@ use Rattle.lists.specs.Sums.{group_size}
 use Rattle.lloyd_nearest.proofs.Steps.{farthest_below, nearest-same}
 use Rattle.lloyd_mean.proofs.Members.{mean_agree, squared_agree}
 use Rattle.lists.proofs.Listed.{listed_same}
-use Rattle.lloyd_table.proofs.Rows.{items}
 use Rattle.lloyd_pass.specs.declared.Ended.TheVariants.{PassLimit, Converged}
 use Rattle.lists.proofs.First.{first-same}
 

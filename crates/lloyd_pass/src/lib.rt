@@ -2,6 +2,7 @@
 // next centroids. The table is kept from pass to pass: only rows of groups whose members changed are worked out anew.
 // Inner forms, all functions here.
 #![tactic(auto)]
+
 ghost use Rattle.std.specs.Prelude.{◌≡◌, ℕ, ◌<◌, ◌≤◌, ◌*◌, length, take, not, ◌&&◌, eqb};
 ghost use Rattle.lists.specs.Lists.{listed, cells, numbers};
 ghost use Rattle.distance_columns.specs.Columns.{points_at};

@@ -1,5 +1,6 @@
 // What the grouping answers.
 #![tactic(auto)]
+
 ghost use Rattle.std.specs.Prelude.{◌≡◌};
 ghost use Rattle.onc_answers.specs.Answers.{number_of, place_of, groups_of, read_of};
 

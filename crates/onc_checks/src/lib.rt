@@ -1,5 +1,6 @@
 // The checks that the grouping makes before its run.
 #![tactic(auto)]
+
 ghost use Rattle.std.specs.Prelude.{◌≡◌, ◌≤◌};
 ghost use Rattle.onc_answers.specs.Answers.{answer_of, refusing};
 ghost use Rattle.onc_checks.specs.Checks.{lists_fit, shape_of};

@@ -1,15 +1,14 @@
 -- Draws that are all in range are taken, at whatever place, and what they make does not depend on the place.
-use mathlib.Core.Path.{◌≡◌, refl, ◌∙◌, sym, ap}
+use mathlib.Core.Path.{◌≡◌, refl, ap}
 use mathlib.Core.List.{List, [], ◌∷◌, ◌++◌, foldl}
-use Prim.Native.Nat.{ℕ, zero, suc, ◌+◌, ◌-◌, ◌<◌, ◌≤◌}
+use Prim.Native.Nat.{ℕ, suc, ◌+◌, ◌-◌, ◌<◌}
 use native.Mathlib.Omega.{arith}
-use native.Mathlib.Nat.{not-suc-le-zero}
 use borrow.Author.Tests.{lt-ltb}
 use lib.ListN.{length}
 use lib.Ieee.{Float}
 use Rattle.lists.specs.Lists.{cells, numbers}
 use Rattle.lists.specs.Sums.{sum_to}
-use Rattle.draws.specs.Draws.{Drawn, drawn, refused, takes, one_draw, and_then}
+use Rattle.draws.specs.Draws.{drawn, takes}
 use Rattle.plusplus_pick.specs.declared.Trial.{Trial}
 use Rattle.plusplus_pick.specs.Potentials.{limit, trial}
 use Rattle.plusplus_trials.specs.Trials.{against, best_trial, next_of}

@@ -7,18 +7,18 @@ use native.Mathlib.Nat.{suc-mul, zero-mul}
 use borrow.Author.Tests.{lt-ltb}
 use lib.ListN.{length, length-append}
 use lib.Ieee.{Float}
-use Rattle.lists.specs.Lists.{cells, listed, numbers}
+use Rattle.lists.specs.Lists.{cells, listed}
 use Rattle.lists.specs.Sums.{sum_to}
 use Rattle.lists.proofs.Listed.{length-listed, get_d_listed}
 use Rattle.draws.specs.Counts.{trials_of, seeding_of}
-use Rattle.draws.specs.Draws.{Drawn, drawn, refused, takes, and_then}
+use Rattle.draws.specs.Draws.{drawn, takes, and_then}
 use Rattle.draws.proofs.Counting.{trials_some}
 use Rattle.plusplus_pick.specs.Potentials.{limit, with}
 use Rattle.plusplus_trials.specs.Trials.{next_of}
 use Rattle.plusplus.specs.Seeding.{centres_of, seeding}
-use Rattle.rng_std.specs.Words.{Taken, index_from}
+use Rattle.rng_std.specs.Words.{index_from}
 use Rattle.rng_std.proofs.Ranges.{index_below, index_next}
-use Rattle.plusplus_seeded.specs.Seeded.{place_of, draws_by, rule_of, pick_of, centre_rule, centre_draws, centre_of, more_made, made_from, seed_made}
+use Rattle.plusplus_seeded.specs.Seeded.{place_of, centre_rule, centre_draws, centre_of, more_made, seed_made}
 use Rattle.plusplus_seeded.proofs.Rules.{rule_below, place_few}
 use Rattle.plusplus_seeded.proofs.Fine.{Fine, pick_fine, append_none}
 

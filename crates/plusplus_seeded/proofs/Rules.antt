@@ -1,5 +1,5 @@
 -- Draws by the rule for a centre: each is in range, and takes at most two words.
-use mathlib.Core.Path.{◌≡◌, refl, ◌∙◌, sym, ap}
+use mathlib.Core.Path.{◌≡◌, ◌∙◌}
 use mathlib.Core.Bool.{Bool, true, false, cond}
 use mathlib.Core.List.{List}
 use Prim.Native.Nat.{ℕ, zero, suc, ◌+◌, ◌*◌, ◌^◌, ◌<◌, ◌≤◌}
@@ -8,9 +8,9 @@ use native.Mathlib.Numerals.{add-one}
 use lib.Ieee.{Float, lt}
 use Rattle.lists.specs.Sums.{zero64}
 use Rattle.plusplus_pick.specs.Potentials.{limit}
-use Rattle.rng_std.specs.Words.{Taken, word_of, index_from, share_from}
+use Rattle.rng_std.specs.Words.{Taken, index_from, share_from}
 use Rattle.rng_std.specs.States.{Moved}
-use Rattle.rng_std.proofs.Ranges.{word_below, share_below, share_next, index_below, index_next}
+use Rattle.rng_std.proofs.Ranges.{share_below, share_next, index_below, index_next}
 use Rattle.plusplus_seeded.specs.Seeded.{place_of, rule_of}
 
 module _ (w : ℕ → ℕ) (small : (i : ℕ) → w i < 2 ^ 32) (total : Float) (m : ℕ) where

@@ -1,6 +1,6 @@
 -- The draws and the centres of a seeding by a generator need the squared distances between items alone: tables that agree there give the same.
 use Prim.Native.Nat.{ℕ, zero, suc, ◌+◌, ◌-◌, ◌^◌, ◌<◌, ◌≤◌}
-use mathlib.Core.Path.{◌≡◌, refl, ◌∙◌, sym, ap, subst}
+use mathlib.Core.Path.{◌≡◌, refl, ◌∙◌, ap, subst}
 use mathlib.Core.List.{List, [], ◌∷◌}
 use lib.ListN.{length, drop}
 use lib.Ieee.{Float, nan}
@@ -8,16 +8,15 @@ use Rattle.lists.specs.Lists.{cells, listed, matrix_of}
 use Rattle.lists.proofs.Listed.{listed_same}
 use Rattle.lists.proofs.Matrix.{row_cell, in_matrix}
 use Rattle.draws.specs.Counts.{trials_of}
-use Rattle.draws.specs.Draws.{Drawn, drawn}
 use Rattle.draws.proofs.Counting.{trials_some}
 use Rattle.draws.proofs.Taken.{Ends}
 use Rattle.plusplus_pick.specs.Potentials.{lesser_number, with}
-use Rattle.plusplus_trials.specs.Trials.{next_of, table}
+use Rattle.plusplus_trials.specs.Trials.{table}
 use Rattle.plusplus_trials.proofs.Centring.{next_took}
 use Rattle.plusplus_trials.proofs.Agree.{next_same}
 use Rattle.rng_std.specs.Words.{index_from}
 use Rattle.rng_std.proofs.Ranges.{index_below}
-use Rattle.plusplus_seeded.specs.Seeded.{Made, place_of, pick_of, onto, centre_rule, centre_draws, centre_of, more_made, made_from, seed_made}
+use Rattle.plusplus_seeded.specs.Seeded.{place_of, pick_of, onto, centre_rule, centre_draws, centre_of, more_made, seed_made}
 use Rattle.plusplus_seeded.proofs.Fine.{pick_fine}
 use Rattle.plusplus_seeded.proofs.Made.{centre_long, centre_fine}
 

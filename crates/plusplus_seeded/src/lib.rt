@@ -1,6 +1,7 @@
 // k-means++ by a generator: the draws of each centre are taken just before its trials, when their kind is known, and the trials are those of the draws in a
 // list. Inner forms.
 #![tactic(auto)]
+
 ghost use Rattle.std.specs.Prelude.{◌≡◌, true, false, ◌<◌, ◌≤◌, ◌+◌, ◌-◌, ◌*◌, ◌^◌, ◌∷◌, ◌++◌};
 ghost use lib.ListN.{length};
 ghost use Rattle.lists.specs.Lists.{cells, listed};

@@ -1,5 +1,6 @@
 // The t-stat of each group, and which groups are weak. Inner forms, for the rounds.
 #![tactic(auto)]
+
 ghost use Rattle.std.specs.Prelude.{◌≡◌, map, ℕ, ◌≤◌, ◌<◌, ◌+◌, length};
 ghost use Rattle.lists.specs.Lists.{cells, numbers};
 ghost use Rattle.partition.specs.Orders.{cut, Sized};

@@ -1,5 +1,6 @@
 // Groups picked out of a partition by their t-stats. Inner form, for the weak groups and the kept ones.
 #![tactic(auto)]
+
 ghost use Rattle.std.specs.Prelude.{◌≡◌, cond, not, ◌++◌, ◌<◌, ◌+◌, length, drop};
 ghost use Rattle.std.specs.Float.Ieee.{lt};
 ghost use Rattle.partition.specs.Partition.{joined};

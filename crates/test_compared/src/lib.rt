@@ -1,5 +1,6 @@
 // Whether what a call left in its lists is what was recorded: the same numbers and bits, and working lists with zeros at the front.
 #![tactic(auto)]
+
 ghost use Rattle.std.specs.Prelude.{◌≡◌};
 ghost use Rattle.test_compared.specs.Compared.{same_numbers, same_doubles, front_of, numbers_front_of, left_at, left_doubles, left_numbers, left_lists, names_wiped};
 

@@ -1,5 +1,6 @@
 // What the programs that run recorded cases print: the cases that differ, and the count of all cases.
 #![tactic(auto)]
+
 ghost use Rattle.std.specs.Prelude.{◌<◌, ◌≤◌, ◌≡◌};
 ghost use Rattle.test_counts.specs.Counting.{passes, with_case};
 

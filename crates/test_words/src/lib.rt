@@ -1,5 +1,6 @@
 // The words of a text, one a line of 16 hex digits, for the programs that run recorded cases.
 #![tactic(auto)]
+
 ghost use Rattle.std.specs.Prelude.{◌≤◌, ◌≡◌, length};
 ghost use Rattle.test_words.specs.Words.{hex_digit_of, with_digit, value_of, word_at, word_from, size_from, doubles_from, words_from};
 

@@ -1,5 +1,6 @@
 // The text that the grouping program writes: a grouping, or a refusal.
 #![tactic(auto)]
+
 ghost use Rattle.std.specs.Prelude.{◌≡◌, true, ◌&&◌, ◌+◌, ◌*◌, ◌≤◌, map, leb, eqb, length};
 ghost use Rattle.bits.specs.Bits.{bits_of};
 ghost use Rattle.text_writing.specs.Stores.{Wrote};

@@ -1,5 +1,6 @@
 // The text of a grouping by the order and the sizes of its groups.
 #![tactic(auto)]
+
 ghost use Rattle.std.specs.Prelude.{◌≡◌, ◌≤◌, length, take};
 ghost use Rattle.partition.specs.Orders.{Sized, cut};
 ghost use Rattle.partition.specs.Partition.{label_of};

@@ -1,6 +1,7 @@
 // The layout of a request: three lines of fields, found place by place. Nothing is stored. Inner forms,
 // for `read_request`.
 #![tactic(auto)]
+
 ghost use Rattle.std.specs.Prelude.{◌≡◌, ◌+◌, ◌^◌, ◌<◌, ◌≤◌};
 ghost use Rattle.text_digits.specs.Digits.{run_of, spelled};
 ghost use Rattle.text_layout.specs.Layout.{plain as plain_of, small_at, head_of, cell_form, draw_form, line_at, empty_at, lists_of, layout_of};

@@ -1,6 +1,7 @@
 // The text that the grouping program reads: names, repeats and the count of draws; the cells; the draws.
 // The layout is looked at first, so that a text with a fault leaves the lists as they were.
 #![tactic(auto)]
+
 ghost use Rattle.std.specs.Prelude.{◌≡◌, true, length};
 ghost use Rattle.lists.specs.Lists.{listed};
 ghost use Rattle.lists.specs.Sums.{all_to};

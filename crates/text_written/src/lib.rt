@@ -1,5 +1,6 @@
 // What a call that writes a text answers.
 #![tactic(auto)]
+
 ghost use Rattle.std.specs.Prelude.{◌≡◌};
 ghost use Rattle.text_written.specs.Answers.{number_of, bytes_of};
 

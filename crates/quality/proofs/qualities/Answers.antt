@@ -11,21 +11,25 @@ use Rattle.lists.proofs.Listed.{listed_map, writes, writes_done, writes_one}
 use Rattle.partition.proofs.Cuts.{cut-length, cut_part, sized_end, total_next}
 use Rattle.quality.specs.Quality.{quality_of}
 use Rattle.quality.proofs.qualities.Goals as goal
-use Rattle.quality.proofs.qualities.Goals.{In-loop-g}
-
--- group g ends within the order
-ends : (c : In-loop-g invariant-loop decreases-loop) → c.before.loop.at + numbers c.before.before.before.before.before.before.args.sizes.now c.before.loop.g ≤ length c.before.before.before.before.before.before.args.scores.now
-ends c = let l = c.before.loop in omega (arith, sized_end c.before.before.before.before.before.before.requires l.g (rw l.invariant.0 at c.loop-test.true), l.invariant.2)
 
 pub loop-g-init : goal.loop-g-init
 unfolding writes total_to
 loop-g-init c = (refl, omega arith, refl, refl, refl)
 
 pub overflow_add-end : goal.overflow_add-end
-overflow_add-end c = omega (arith, ends (goal.at.overflow_add-end c).In-loop-g, c.requires.few)
+overflow_add-end c =
+    let e : c.loop-g.at + numbers c.args.sizes.now c.loop-g.g ≤ length c.args.scores.now = omega (arith, sized_end c.requires c.loop-g.g (rw c.loop-g.invariant.0 at c.loop-g-test.true), c.loop-g.invariant.2) in
+    omega (arith, c.requires.few)
 
 pub offset_bounds-order-at : goal.offset_bounds-order-at
-offset_bounds-order-at c = omega (arith, ends (goal.at.offset_bounds-order-at c).In-loop-g, c.requires.few)
+offset_bounds-order-at c =
+    let e : c.loop-g.at + numbers c.args.sizes.now c.loop-g.g ≤ length c.args.scores.now = omega (arith, sized_end c.requires c.loop-g.g (rw c.loop-g.invariant.0 at c.loop-g-test.true), c.loop-g.invariant.2) in
+    omega (arith, c.requires.few)
+
+pub slice_bounds-group_quality-end : goal.slice_bounds-group_quality-end
+slice_bounds-group_quality-end c =
+    let e : c.loop-g.at + numbers c.args.sizes.now c.loop-g.g ≤ length c.args.scores.now = omega (arith, sized_end c.requires c.loop-g.g (rw c.loop-g.invariant.0 at c.loop-g-test.true), c.loop-g.invariant.2) in
+    omega (arith, c.requires.items)
 
 pub loop-g-preserved : goal.loop-g-preserved
 loop-g-preserved c =

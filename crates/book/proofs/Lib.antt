@@ -1,3 +1,0 @@
--- What the walks over `Book` share.
-pub mod Thin
-pub mod Walks
