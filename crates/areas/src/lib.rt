@@ -1,6 +1,7 @@
 // The areas of a round's list of doubles, m by m cells each. The first has the points, m items of m columns; their transpose, the
 // squared pair distances and the pair distances are filled from it here. The fifth, the table of Lloyd's passes, is filled by lloyd_table.
 #![tactic(auto)]
+
 ghost use Rattle.std.specs.Prelude.{◌≡◌, ◌<◌, ◌≤◌, ◌+◌, ◌-◌, ◌*◌, length, take};
 ghost use Rattle.sqrt.specs.Root.{root};
 ghost use Rattle.lists.specs.Lists.{listed, cells, cell_at, put, matrix_of};

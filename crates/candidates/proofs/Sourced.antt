@@ -1,9 +1,9 @@
 -- The candidates of a round, with the draws of a source: what a source has and where it stands behind some draws, how many draws and words there are, that a
 -- generator's draws are never refused, and the turns of the two loops.
-use Prim.Native.Nat.{ℕ, zero, suc, ◌+◌, ◌-◌, ◌*◌, ◌^◌, ◌<◌, ◌≤◌}
+use Prim.Native.Nat.{ℕ, zero, suc, ◌+◌, ◌*◌, ◌^◌, ◌<◌, ◌≤◌}
 use mathlib.Core.Path.{◌≡◌, refl, sym, ◌∙◌, ap}
 use mathlib.Core.Bool.{Bool, true, false, cond}
-use mathlib.Core.List.{List, [], ◌++◌, append_assoc}
+use mathlib.Core.List.{List, ◌++◌, append_assoc}
 use native.Mathlib.Nat.{suc-mul, zero-mul}
 use native.Mathlib.Omega.{arith}
 use lib.ListN.{length, drop, length-append}
@@ -17,7 +17,7 @@ use Rattle.rng_std.specs.Seeds.{key_of}
 use Rattle.rng_std.proofs.Ranges.{word_below}
 use Rattle.plusplus_seeded.specs.Seeded.{Made, seed_made}
 use Rattle.plusplus_seeded.specs.declared.Source.{Source}
-use Rattle.plusplus_seeded.specs.Sources.{words_by, given, moved_on, Supplies, seed_draws, seed_next}
+use Rattle.plusplus_seeded.specs.Sources.{words_by, moved_on, Supplies, seed_draws, seed_next}
 use Rattle.plusplus_seeded.proofs.Made.{seed_made_lem, seed_long, seed_few}
 use Rattle.plusplus_seeded.proofs.Same.{seed_same}
 use Rattle.plusplus_seeded.proofs.Supplies.{step_drawn, step_refused}
@@ -27,7 +27,7 @@ use Rattle.lloyd_pass.specs.Passes.{lloyd_labels, lloyd_ended}
 use Rattle.kmeans.specs.Clustering.{Grouped, kmeans_of}
 use Rattle.candidates.specs.Candidates.{Best, nothing, keep, candidate_of, tries_from, repeats_from, best_of}
 use Rattle.candidates.specs.Made.{Stretch, before, tries_made, repeats_made, tries_given, tries_moved, repeat_moved, repeats_given, repeats_moved}
-use Rattle.candidates.proofs.Laws.{Passed, count_is, tries_few, tries_more, tries_took, tries_behind, repeat_took}
+use Rattle.candidates.proofs.Laws.{count_is, tries_more, tries_took, tries_behind, repeat_took}
 
 -- a source that has a + c draws: it has a, and behind them c
 pub supplies_front : {src : Source} {draws : List ℕ} (a c : ℕ) → Supplies src draws (a + c) → Supplies src draws a

@@ -1,5 +1,6 @@
 // The best of the candidates of a round: repeats outside, the number of groups inside. Inner forms, for `cluster_kmeans_base`.
 #![tactic(auto)]
+
 ghost use Rattle.std.specs.Prelude.{◌≡◌, ◌≤◌, ◌*◌, length, take};
 ghost use Rattle.distance_columns.specs.Columns.{points_at};
 ghost use Rattle.draws.specs.Counts.{tries, count_of};

@@ -1,6 +1,7 @@
 // The distances between the rows of a matrix, to a list of the caller's: of plain points, and of the distances of a book
 // that is read through a list of row numbers.
 #![tactic(auto)]
+
 ghost use Rattle.std.specs.Prelude.{◌≡◌, ◌≤◌, ◌*◌, length};
 ghost use Rattle.lists.specs.Lists.{cell_at, part, matrix_of};
 ghost use Rattle.refusals.specs.Table.{refusal_of, refusal, wiped};

@@ -1,5 +1,6 @@
 // The squared distance of two lists, and of two items of a book that is read through a list of row numbers.
 #![tactic(auto)]
+
 ghost use Rattle.std.specs.Prelude.{◌≡◌, true, ◌<◌, ◌≤◌, ◌+◌, min, length};
 ghost use Rattle.lists.specs.Lists.{first_from};
 ghost use Rattle.refusals.specs.Table.{refusal_of, refusal};

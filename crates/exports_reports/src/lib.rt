@@ -1,5 +1,6 @@
 // What the calls for other languages report: numbers, places and averages in the lists that the caller lends for them.
 #![tactic(auto)]
+
 ghost use Rattle.std.specs.Prelude.{◌≡◌, cond, false, [], ◌∷◌, eqb, length};
 ghost use Rattle.stats.specs.Average.{averaged_of};
 ghost use Rattle.onc_answers.specs.Answers.{number_of, place_of, groups_of, read_of};

@@ -1,5 +1,6 @@
 // What the calls of the k-means leaves report for the harness, in the list that it lends for the answer.
 #![tactic(auto)]
+
 ghost use Rattle.std.specs.Prelude.{◌≡◌, cond, false, [], ◌∷◌, eqb, length};
 ghost use Rattle.refusals.specs.Table.{refusal};
 ghost use Rattle.kmeans_answers.specs.Answers.{number_of, place_of, read_of};

@@ -1,5 +1,6 @@
 // The check of a book in whole millionths, before anything is worked out from it.
 #![tactic(auto)]
+
 ghost use Rattle.std.specs.Prelude.{◌*◌, ◌<◌, ◌≤◌, ◌≡◌, length};
 ghost use Rattle.intake_answers.specs.Answers.{refusal_of};
 ghost use Rattle.intake.specs.Intake.{same_z, in_range, on_diagonal, cause_of, cause_at, first_fault, fault_of, shape_of, intake_of};

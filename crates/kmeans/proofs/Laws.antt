@@ -43,7 +43,7 @@ module _ (x : ℕ → ℕ → Float) (m k : ℕ) (z : 0 < m) (one_of_lem : 0 < k
   unfolding kmeans_of
   cluster_stopped labels s =
       let v = seed_stopped (squared_at x m) m k z one_of_lem at ds next cs s in
-      rw (v.1, v.2) (record { answer_is = refl; labels_after_lem = refl })
+      rw (v.1, v.2) (record { answer_is = refl; labels_are = refl })
 
   module _ {n : ℕ} (s : SeededBy (seeding (squared_at x m) m k at ds) next (seeded.TheVariants.Done n) cs) where
     pub centres_made : k ≤ m → Centres cs m
@@ -57,7 +57,7 @@ module _ (x : ℕ → ℕ → Float) (m k : ℕ) (z : 0 < m) (one_of_lem : 0 < k
         let v = seed_done (squared_at x m) m k z one_of_lem at ds next cs s in
         let a : r ≡ lloyd_ended x m k (numbers cs) = c.answer ∙ ap (λ (j : ℕ). lloyd_ended x m j (numbers cs)) v.1 in
         let b : labels' ≡ lloyd_labels x m k (numbers cs) = c.labelled ∙ ap (λ (j : ℕ). lloyd_labels x m j (numbers cs)) v.1 in
-        rw (v.3, v.0) (record { answer_is = ap (Done next) a; labels_after_lem = b })
+        rw (v.3, v.0) (record { answer_is = ap (Done next) a; labels_are = b })
 
 -- what holds of the groups and of the draws that remain
 abbrev pub Took : ℕ → ℕ → List ℕ → Grouped → List ℕ → Type 0
@@ -91,7 +91,7 @@ done_is (drawn g rest) {next} {n} {old} {new} {e} s =
     let a : Done n e ≡ Done next g.ended = s.answer_is in
     let u : n ≡ next = cc in
     let v : e ≡ g.ended = cc in
-    (rest, u, rw (v, s.labels_after_lem))
+    (rest, u, rw (v, s.labels_are))
 done_is (refused p) {next} {n} {old} {new} {e} s =
     let a : Done n e ≡ Stopped (DrawOutOfRange p) = s.answer_is in
     let z : ◌≡◌ {A = ℕ} 0 1 = cc in
@@ -106,7 +106,7 @@ stopped_is (drawn g rest) {next} {old} {new} {w} s =
 stopped_is (refused p) {next} {old} {new} {w} s =
     let a : Stopped w ≡ Stopped (DrawOutOfRange p) = s.answer_is in
     let e : w ≡ DrawOutOfRange p = cc in
-    (p, refl, e, s.labels_after_lem)
+    (p, refl, e, s.labels_are)
 
 module _ (x : ℕ → ℕ → Float) (m k : ℕ) (z : 0 < m) (one_of_lem : 0 < k) (at : ℕ) (ds : List ℕ) (next : ℕ) (old new : List ℕ) where
   pub kmeans_done : {n : ℕ} {e : Ended} → ClusteredBy (kmeans_of x m k at ds) next old (Done n e) new

@@ -26,7 +26,7 @@ use Rattle.plusplus_seeded.specs.declared.Supplied.TheVariants as supplied
 use Rattle.plusplus_seeded.specs.Sources.{words_by, given, moved_on, RngOf, seed_draws, seed_next, SuppliedBy}
 use Rattle.plusplus_seeded.proofs.Same.{seed_matrix}
 use Rattle.lloyd_pass.specs.declared.Ended.{Ended}
-use Rattle.kmeans.specs.Clustering.{Grouped, kmeans_of}
+use Rattle.kmeans.specs.Clustering.{Grouped}
 use Rattle.kmeans.specs.Steps.{ClusteredBy, LabelledBy, MayCluster, seed_given, seed_moved}
 use Rattle.kmeans.specs.declared.Clustered.TheVariants as clustered
 use Rattle.kmeans.specs.declared.Labelled.TheVariants as labelled
@@ -92,7 +92,7 @@ pub labelled_done : (D : Drawn Grouped) {next n : Source} {old new : List ℕ} {
 labelled_done (drawn g rest) {next} {n} {old} {new} {e} h s =
     let a : clustered.Done 0 e ≡ clustered.Done 0 g.ended = s.answer_is in
     let v : e ≡ g.ended = cc in
-    record { answer_is = rw (h, v) refl; labels_after_lem = s.labels_after_lem }
+    record { answer_is = rw (h, v) refl; labels_are = s.labels_are }
 labelled_done (refused p) {next} {n} {old} {new} {e} h s =
     let a : clustered.Done 0 e ≡ clustered.Stopped (DrawOutOfRange p) = s.answer_is in
     let z : ◌≡◌ {A = ℕ} 0 1 = cc in
@@ -106,14 +106,14 @@ labelled_stopped (drawn g rest) {next} {w} {old} {new} s =
 labelled_stopped (refused p) {next} {w} {old} {new} s =
     let a : clustered.Stopped w ≡ clustered.Stopped (DrawOutOfRange p) = s.answer_is in
     let e : w ≡ DrawOutOfRange p = cc in
-    record { answer_is = ap labelled.Stopped e; labels_after_lem = s.labels_after_lem }
+    record { answer_is = ap labelled.Stopped e; labels_are = s.labels_are }
 
 pub clustered_done : (D : Drawn Grouped) {next n : Source} {old new : List ℕ} {e : Ended} → LabelledBy D next old (labelled.Done n e) new → ClusteredBy D next.at old (clustered.Done n.at e) new
 clustered_done (drawn g rest) {next} {n} {old} {new} {e} s =
     let a : labelled.Done n e ≡ labelled.Done next g.ended = s.answer_is in
     let u : n ≡ next = cc in
     let v : e ≡ g.ended = cc in
-    record { answer_is = rw (u, v) refl; labels_after_lem = s.labels_after_lem }
+    record { answer_is = rw (u, v) refl; labels_are = s.labels_are }
 clustered_done (refused p) {next} {n} {old} {new} {e} s =
     let a : labelled.Done n e ≡ labelled.Stopped (DrawOutOfRange p) = s.answer_is in
     let z : ◌≡◌ {A = ℕ} 0 1 = cc in
@@ -127,7 +127,7 @@ clustered_stopped (drawn g rest) {next} {at} {w} {old} {new} s =
 clustered_stopped (refused p) {next} {at} {w} {old} {new} s =
     let a : labelled.Stopped w ≡ labelled.Stopped (DrawOutOfRange p) = s.answer_is in
     let e : w ≡ DrawOutOfRange p = cc in
-    record { answer_is = ap clustered.Stopped e; labels_after_lem = s.labels_after_lem }
+    record { answer_is = ap clustered.Stopped e; labels_are = s.labels_are }
 
 -- a list has the draws of one seeding
 pub list_supplies : (m k : ℕ) (draws : List ℕ) (at : ℕ) → m ≤ 256 → length draws < 2 ^ 64 → MaySeed m k draws at → MayCluster m k draws (record { at = at; seeded = false; seed = 0; taken = 0 })

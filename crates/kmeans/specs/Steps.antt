@@ -24,7 +24,7 @@ labels_after (refused p) old = old
 
 pub record ClusteredBy (g : Drawn Grouped) (next : ℕ) (labels : List ℕ) (r : Clustered) (labels' : List ℕ) : Type 0 where
   pub answer_is : r ≡ clustered_of next g
-  pub labels_after_lem : labels' ≡ labels_after g labels
+  pub labels_are : labels' ≡ labels_after g labels
 
 -- k groups of m items, and a source with the draws for them
 pub record MayCluster (m k : ℕ) (draws : List ℕ) (src : Source) : Type 0 where
@@ -46,4 +46,4 @@ labelled_of next (refused p) = labelled.Stopped (DrawOutOfRange p)
 
 pub record LabelledBy (g : Drawn Grouped) (next : Source) (labels : List ℕ) (r : Labelled) (labels' : List ℕ) : Type 0 where
   pub answer_is : r ≡ labelled_of next g
-  pub labels_after_lem : labels' ≡ labels_after g labels
+  pub labels_are : labels' ≡ labels_after g labels

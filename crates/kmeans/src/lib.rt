@@ -1,5 +1,6 @@
 // k-means on the areas of a round's list of doubles: k-means++, then Lloyd's passes. Inner forms, for the rounds and the leaves.
 #![tactic(auto)]
+
 ghost use Rattle.std.specs.Prelude.{◌≡◌, ◌≤◌, ◌+◌, ◌*◌, length, take, drop};
 ghost use Rattle.distance_columns.specs.Pair.{squared_at};
 ghost use Rattle.distance_columns.specs.Columns.{points_at};

@@ -130,7 +130,7 @@ module _ (book : List Float) (rows repeat : ℕ) (draws : List ℕ) where
           same = λ draws' l' long t.
               let t' : take (total_of repeat ms) draws' ≡ take (total_of repeat ms) draws = subst (λ (c : ℕ). take c draws' ≡ take c draws) count t in
               of_same s ms read rest draws' (drop (total_of repeat ms) draws') l' long e (k.same draws' t');
-          same_labels_lem = λ draws' l' long t.
+          same_labels = λ draws' l' long t.
               let t' : take (total_of repeat ms) draws' ≡ take (total_of repeat ms) draws = subst (λ (c : ℕ). take c draws' ≡ take c draws) count t in
               ap (labels_in rows) (of_same s ms read rest draws' (drop (total_of repeat ms) draws') l' long e (k.same draws' t'));
         }

@@ -212,7 +212,7 @@ pub record Counted (book : List Float) (rows cols repeat : ℕ) (draws : List �
   pub there : count ≤ length draws
   pub same : (draws' : List ℕ) (l' : Lists) → AsLong l l' → take count draws' ≡ take count draws
       → outputs (group_of book rows cols repeat draws' l') ≡ outputs (group_of book rows cols repeat draws l)
-  pub same_labels_lem : (draws' : List ℕ) (l' : Lists) → AsLong l l' → take count draws' ≡ take count draws
+  pub same_labels : (draws' : List ℕ) (l' : Lists) → AsLong l l' → take count draws' ≡ take count draws
       → labels_in rows (outputs (group_of book rows cols repeat draws' l')) ≡ labels_in rows (outputs (group_of book rows cols repeat draws l))
 
 -- How a run of n names ends. A grouping comes after a round that is reached and finds a candidate with two weak groups or fewer, and its partition s is what

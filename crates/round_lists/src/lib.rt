@@ -1,5 +1,6 @@
 // The base of a round in the working lists of the run, and the rows of its weak items. Inner forms, for the rounds.
 #![tactic(auto)]
+
 ghost use Rattle.std.specs.Prelude.{◌≡◌, ◌≤◌, ◌*◌, length, take};
 ghost use Rattle.lists.specs.Lists.{part};
 ghost use Rattle.partition.specs.Orders.{Sized};

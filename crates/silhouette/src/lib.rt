@@ -1,5 +1,6 @@
 // Rousseeuw's silhouette of every item, from the pair distances and a label for each item.
 #![tactic(auto)]
+
 ghost use Rattle.std.specs.Prelude.{◌≡◌, ℕ, ◌<◌, ◌≤◌, ◌*◌, length};
 ghost use Rattle.lists.specs.Lists.{listed, numbers};
 ghost use Rattle.refusals.specs.Table.{refusal_of, work_doubles, wiped};

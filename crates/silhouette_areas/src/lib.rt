@@ -1,6 +1,7 @@
 // The silhouettes of the items of a round, from the pair distances in the fourth area. Inner form, for the candidates and for a partition
 // that is scored afresh.
 #![tactic(auto)]
+
 ghost use Rattle.std.specs.Prelude.{◌≡◌, ℕ, ◌≤◌, ◌<◌, ◌*◌, length};
 ghost use Rattle.lists.specs.Lists.{numbers};
 ghost use Rattle.distance_columns.specs.Columns.{points_at};

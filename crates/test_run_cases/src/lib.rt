@@ -1,6 +1,7 @@
 // A recorded run of the grouping: the case in the text, and whether an answer and its outputs are as recorded. Inner forms, for
 // `test_runs` and `test_seeds`, whose first lines say how a case stands in the text.
 #![tactic(auto)]
+
 ghost use Rattle.std.specs.Prelude.{◌<◌, ◌≤◌, ◌≡◌, [], ◌∷◌};
 ghost use Rattle.onc_answers.specs.Answers.{answer_of};
 ghost use Rattle.test_run_cases.specs.Cases.{case_at, same_answer, same_outputs};

@@ -22,7 +22,7 @@ same-length-2 c = search rules
 returns : tie.Need-returns
 returns c =
     let q = rw c.before.-stop.given.1 at c.before.before.before.before.before.before.before.labels_in.ensures.0 in
-    (next_stopped _ _ _ c.before.before.before.before.before.before.before.before.before.before.before.before.before.requires.0.some (omega (arith, c.before.before.before.before.before.before.before.before.before.before.before.before.before.requires.1.two)) _ _ _ _ _ q, c.before.before.before.before.before.before.before.labels_in.ensures.0.labels_after_lem, c.before.before.before.before.before.before.before.labels_in.ensures.1)
+    (next_stopped _ _ _ c.before.before.before.before.before.before.before.before.before.before.before.before.before.requires.0.some (omega (arith, c.before.before.before.before.before.before.before.before.before.before.before.before.before.requires.1.two)) _ _ _ _ _ q, c.before.before.before.before.before.before.before.labels_in.ensures.0.labels_are, c.before.before.before.before.before.before.before.labels_in.ensures.1)
 
 same-length-3 : tie.Need-same-length-3
 same-length-3 c = search rules
@@ -33,7 +33,7 @@ same-length-4 c = search rules
 returns-2 : tie.Need-returns-2
 returns-2 c =
     let q = rw c.before.next.given.1 at c.before.before.before.before.before.before.before.labels_in.ensures.0 in
-    (next_done _ _ _ c.before.before.before.before.before.before.before.before.before.before.before.before.before.requires.0.some (omega (arith, c.before.before.before.before.before.before.before.before.before.before.before.before.before.requires.1.two)) _ _ _ _ _ q, c.before.before.before.before.before.before.before.labels_in.ensures.0.labels_after_lem, c.before.before.before.before.before.before.before.labels_in.ensures.1)
+    (next_done _ _ _ c.before.before.before.before.before.before.before.before.before.before.before.before.before.requires.0.some (omega (arith, c.before.before.before.before.before.before.before.before.before.before.before.before.before.requires.1.two)) _ _ _ _ _ q, c.before.before.before.before.before.before.before.labels_in.ensures.0.labels_are, c.before.before.before.before.before.before.before.labels_in.ensures.1)
 
 pub onc-labels-in-spec : {M : Type 1} → statement M
 onc-labels-in-spec =
