@@ -1,5 +1,5 @@
 #!/usr/bin/env bash
-# Builds the library for C, Rust and Python: the two archives by `rt staticlib exports_statistics` and `rt staticlib exports`, of both the
+# Builds the library for C, Rust and Python: the two archives by `rt lib` in crates/exports_statistics and crates/exports, of both the
 # static archive target/lib/libonc.a, and from it the shared object target/lib/libonc.so, which shows the onc_ functions alone. Prints
 # where the last two are.
 #   bash bindings/build.sh
@@ -13,12 +13,14 @@ if [ -n "$archive" ]; then
   [ -f "$archive" ] || { echo "build.sh: LIBRARY names $archive, which is no file" >&2; exit 2; }
   archive=$(cd "$(dirname "$archive")" && pwd)/$(basename "$archive")
 else
-  (cd "$root" && rt staticlib exports_statistics >&2 && rt staticlib exports >&2)
+  for crate in exports_statistics exports; do
+    (cd "$root/crates/$crate" && rt lib >&2)
+  done
   archive=$root/target/lib/libonc.a
   # each archive has one object, named for its crate
   work=$(mktemp -d)
   trap 'rm -rf "$work"' EXIT
-  (cd "$work" && for crate in exports_statistics exports; do "${AR:-ar}" x "$root/target/staticlib/lib$crate.a" "$crate.o"; done)
+  (cd "$work" && for crate in exports_statistics exports; do "${AR:-ar}" x "$root/crates/$crate/out/lib$crate.a" "$crate.o"; done)
   "${AR:-ar}" rcs "$work/libonc.a" "$work/exports_statistics.o" "$work/exports.o"
   mv "$work/libonc.a" "$archive"
 fi

@@ -83,41 +83,50 @@ export ONC_LIBRARY=$shared
 (cd bindings/python && "${PYTHON:-python3}" -m unittest)
 
 echo "== the harness"
-rt staticlib harness_exports >&2
-exported=$(nm --defined-only target/staticlib/libharness_exports.a | awk '$2 == "T" && $3 ~ /^onc_/ { print $3 }' | sort)
+(cd crates/harness_exports && rt lib >&2)
+exported=$(nm --defined-only crates/harness_exports/out/libharness_exports.a | awk '$2 == "T" && $3 ~ /^onc_/ { print $3 }' | sort)
 called=$(sed -n '/^int main/,$p' harness/exports.c | sed 's/"[^"]*"//g' | grep -o 'onc_[a-z_]*(' | tr -d '(' | sort -u)
 [ "$called" = "$exported" ] || fail "harness/exports.c calls other functions than harness_exports has: $exported"
-compile harness/exports.c target/staticlib/libharness_exports.a -lm
+compile harness/exports.c crates/harness_exports/out/libharness_exports.a -lm
 "$work/exports"
-rt check text_written >&2
+(cd crates/text_written && rt check >&2)
 "${PYTHON:-python3}" harness/modules.py text_written >"$work/printed" || fail "harness/modules.py ended with status $?"
 # the loading, then a line for each module, then one for each function
 awk '
   NR == 1 && /^ *[0-9]+\.[0-9][0-9]  loading/ { loading++ }
   /^by function$/ { by++ }
-  /^ *[0-9]+\.[0-9][0-9]  Rattle·text_written/ { if (by) functions++; else modules++ }
+  /^ *[0-9]+\.[0-9][0-9]  (Rattle-text_written|text_written::)/ { if (by) functions++; else modules++ }
   END { exit !(loading && modules && by == 1 && functions) }
 ' "$work/printed" || { cat "$work/printed"; fail "harness/modules.py printed something else"; }
 echo "harness/modules.py: $(wc -l <"$work/printed") lines on text_written"
 cat >"$work/gate.log" <<END
-rt: lists proved (9 s)
-rt: must-fail lists/above_the_limit: refused, as it must be (first at proofs/first_from/Proof.antt:34:74; 8 s)
-rt: sqrt proved (8 s)
-rt: must-fail sqrt/cut_not_rounded: refused, as it must be (first at proofs/rounded_by_digits/Proof.antt:17:13; 8 s)
-rt: must-fail sqrt/exact_test_not_strict: refused, as it must be (first at proofs/settled/Proof.antt:41:5; 9 s)
-rt: must-fail sqrt/zero_for_a_negative: refused, as it must be (first at proofs/nearest_root/Proof.antt:25:15; 10 s)
-rt: test_limits proved (15 s)
-rt: test_limits ran as nobody, and wrote what its file 'stdout' has (0 s)
+== sqrt
+fn sqrt::sqrt: proved
+rt: sqrt proved
+rt: lists is kept: an earlier run on this machine proved the same files over the same libraries
+rt: sqrt: trying its must-fail edits (3)
+rt: must-fail lists/above_the_limit.edit: refused, as it must be: ./proofs/first_from/Answers.antt:14:74: error: ..
+rt: must-fail sqrt/cut_not_rounded.edit: refused, as it must be: ./proofs/rounded_by_digits/Answers.antt:6:13: error: ..
+rt: must-fail sqrt/exact_test_not_strict.edit: refused, as it must be: ./proofs/settled/Answers.antt:18:5: error: ..
+rt: must-fail sqrt/zero_for_a_negative.edit: BAD EDIT: an 'old:' text is in src/lib.rt 0 times, and not once
+rt: test_limits NOT PROVED
+rt: FAILED: test_limits
+6 passed, 1 failed
 END
 gate_table() {
   "${PYTHON:-python3}" harness/gate.py <"$work/gate.log"
 }
 prints gate_table <<END
-| Crate | Proof, s | Edits | One edit, s | Share |
-|---|---|---|---|---|
-| sqrt | 8 | 3 | 9 | 52.2 % |
-| lists | 9 | 1 | 8 | 25.4 % |
-| test_limits | 15 | 0 |  | 22.4 % |
+| Crate | Proof | Edits refused | Edits else |
+|---|---|---|---|
+| sqrt | proved | 2 | 1 |
+| lists | kept | 1 | 0 |
+| test_limits | NOT PROVED | 0 | 0 |
+| all | 2 of 3 | 3 | 1 |
+must-fail sqrt/zero_for_a_negative.edit: BAD EDIT: an 'old:' text is in src/lib.rt 0 times, and not once
+test_limits NOT PROVED
+FAILED: test_limits
+6 passed, 1 failed
 END
 echo "harness/gate.py: the table is as expected"
 

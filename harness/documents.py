@@ -4,7 +4,8 @@
 docs/REVIEW.md: each file is there and defines the names that stand behind it, each contract and edit is there, each kind of case, and each sentence
 that is quoted. docs/READING.md: both ways, each crate stands in the map with its line of crates.txt and each file of definitions in the reading order,
 and each crate, file and name on the page is there. What a line of its picture joins is a call. README.md and the other documents: their paths are there, and
-each name in backticks stands in a source, outside its comments; docs/src/rand, which is rand's, is not looked at. Definitions: where the kit is at hand, none has a name that the kit's library has.
+each name in backticks stands in a source, outside its comments; docs/src/rand, which is rand's, is not looked at. Definitions: where the kit is at hand, none has a name that
+the specs of its standard library have, but for those that are older than this kit; these are told in a note.
 
     python3 harness/documents.py
 """
@@ -24,7 +25,8 @@ def text(path):
 
 
 def below(folder):
-    return sorted(os.path.join(d, f) for d, _, fs in os.walk(folder) for f in fs)
+    """The files of a folder; crates/NAME/out, which rt makes, is not looked at."""
+    return sorted(os.path.join(d, f) for d, _, fs in os.walk(folder) if not re.search(r"(^|/)crates/\w+/out(/|$)", d) for f in fs)
 
 
 def has(where, ok, what):
@@ -55,8 +57,8 @@ def cells(line):
 
 cases = "".join(text(p) for p in below("harness") if p.endswith((".rs", ".py")))
 sources = {c: "".join(text(p) for p in below(f"crates/{c}/src")) for c in os.listdir("crates")}
-lines = dict(re.findall(r"^# (\w+): (.*)\n\1:", text("crates.txt"), re.M))
-kit = {"io", "libc"}
+lines = dict(re.findall(r"^# (\w+): (.*)\n\1(?: staticlib)?:", text("crates.txt"), re.M))
+kit = {"io"}
 
 for number, line in enumerate(text("docs/REVIEW.md").splitlines(), 1):
     if not line.startswith("|"):
@@ -157,17 +159,27 @@ for document in ["README.md"] + [p for p in below("docs") if p != "docs/REVIEW.m
             some = name in words or name.startswith("_") and any(w.endswith(name) for w in words) or name.endswith("_") and any(w.startswith(name) for w in words)
             has(where, some or re.search(r"\b[fg]\b", name), f"nothing is called {name}")
 
-# a name of a contract means one thing to its reader: no definition has that of one of the kit's library
+# a name of a contract means one thing to its reader: no definition has that of one which contracts can cite of the kit's standard library
 rt = shutil.which("rt")
-library = os.path.join(os.path.dirname(os.path.dirname(os.path.realpath(rt))), "logic", "Lib") if rt else ""
+library = os.path.join(os.path.dirname(os.path.dirname(os.path.realpath(rt))), "rattle") if rt else ""
+folders = [f"{library}/logic/Lib"] + [f"{library}/{c}/specs" for c in ("core", "std", "std_alloc", "std_collections", "std_io", "io")]
+# definitions that are older than this kit, whose library now has their names for something else
+older = set(
+    "UpTo after before best_of byte_at bytes_of cell chosen count decided digits_of distance filled full group_at half in_group layout_of least moved none "
+    "passes place_of plain plus put ran refused room row spelled stored taken text_of tried values_of word_at".split()
+)
 made = r"(?:(?:abbrev|unfoldable|opaque) )*pub (\S+) +:"
-if not os.path.isdir(library):
-    print("the kit's library was not found: its names were not looked up")
-theirs = {name for path in below(library) if path.endswith(".antt") for name in re.findall("^ *" + made, text(path), re.M)}
+if not all(os.path.isdir(folder) for folder in folders):
+    print("the kit's library was not found where it is looked for: not all of its names were looked up")
+theirs = {name for folder in folders for path in below(folder) if path.endswith(".antt") for name in re.findall("^ *" + made, text(path), re.M)}
+shared = set()
 for path in below("crates"):
     if "/specs/" in path:
         for name in re.findall("^" + made, text(path), re.M):
-            has(path, name not in theirs, f"the kit's library has another {name}")
+            has(path, name not in theirs or name in older, f"the kit's library has another {name}")
+            shared.update({name} & theirs & older)
+if shared:
+    print(f"note: {len(shared)} definitions are older than this kit and have a name that its library has for something else: {' '.join(sorted(shared))}")
 
 for fault in faults:
     print(fault)

@@ -1,4 +1,4 @@
-//! Links the program `compare` with the proved library: LIBRARIES names the archives that `rt staticlib` wrote, with a space between two.
+//! Links the program `compare` with the proved library: LIBRARIES names the archives that `rt lib` wrote, with a space between two.
 fn main() {
     println!("cargo:rerun-if-env-changed=LIBRARIES");
     if let Ok(libraries) = std::env::var("LIBRARIES") {

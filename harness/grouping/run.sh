@@ -16,9 +16,9 @@
 #   SOURCES=dir bash harness/grouping/run.sh texts [SEED] [TEXTS]
 #   SOURCES=dir bash harness/grouping/run.sh record-texts > crates/test_texts/stdin
 # SOURCES names the folder with the Rust's onc.rs; VENDOR a folder of vendored crates (harness/oracle/README.md).
-# WORK is where all is built (target/harness); LIBRARIES the archives to link instead of those that `rt staticlib` writes of `exports`,
-# `exports_statistics` and `harness_exports`; PROGRAM the grouping program to run instead of the one that `rt check grouping` writes. `count`
-# takes valgrind.
+# WORK is where all is built (target/harness); LIBRARIES the archives to link instead of those that `rt lib` writes of `exports`,
+# `exports_statistics` and `harness_exports`; PROGRAM the grouping program to run instead of the one that `rt run` builds in crates/grouping.
+# `count` takes valgrind.
 set -euo pipefail
 case ${1:-} in runs | statistics | stack | time | time-seeds | count | record | record-kinds | record-seeds | record-seed-kinds | vectors | texts | record-texts) ;; *) sed -n '2,21s/^# //p' "$0" && exit 2 ;; esac
 cd "$(dirname "${BASH_SOURCE[0]}")/../.."
@@ -44,8 +44,8 @@ case $1 in
   texts | record-texts)
     build texts
     if [ "$1" = texts ] && [ -z "${PROGRAM:-}" ]; then
-      rt check grouping >&2
-      PROGRAM=$PWD/target/bin/grouping
+      (cd crates/grouping && rt run <stdin >&2)
+      PROGRAM=$PWD/crates/grouping/out/grouping
     fi
     export PROGRAM
     exec "$work/build/release/texts" "$@"
@@ -54,8 +54,8 @@ esac
 if [ -z "${LIBRARIES:-}" ]; then
   LIBRARIES=
   for crate in exports exports_statistics harness_exports; do
-    rt staticlib $crate >&2
-    LIBRARIES="$LIBRARIES $PWD/target/staticlib/lib$crate.a"
+    (cd crates/$crate && rt lib >&2)
+    LIBRARIES="$LIBRARIES $PWD/crates/$crate/out/lib$crate.a"
   done
 fi
 export LIBRARIES

@@ -4,7 +4,7 @@
 #   SOURCES=dir bash harness/kmeans/run.sh time [RUNS]
 #   SOURCES=dir bash harness/kmeans/run.sh record > crates/test_kmeans/stdin
 # SOURCES names the folder with the Rust's onc.rs; VENDOR a folder of vendored crates (harness/oracle/README.md).
-# WORK is where all is built (target/harness); LIBRARIES the archive to link instead of the one that `rt staticlib harness_exports` writes.
+# WORK is where all is built (target/harness); LIBRARIES the archive to link instead of the one that `rt lib` writes in crates/harness_exports.
 set -euo pipefail
 case ${1:-} in calls | time | record) ;; *) sed -n '2,7s/^# //p' "$0" && exit 2 ;; esac
 cd "$(dirname "${BASH_SOURCE[0]}")/../.."
@@ -22,8 +22,8 @@ if [ "${1:-}" = record ]; then
   exec "$work/build/release/record"
 fi
 if [ -z "${LIBRARIES:-}" ]; then
-  rt staticlib harness_exports >&2
-  LIBRARIES="$PWD/target/staticlib/libharness_exports.a"
+  (cd crates/harness_exports && rt lib >&2)
+  LIBRARIES="$PWD/crates/harness_exports/out/libharness_exports.a"
 fi
 export LIBRARIES
 build compare

@@ -3,8 +3,8 @@
 # Run from the repository's root: bash harness/roots/run.sh
 set -euo pipefail
 cd "$(dirname "${BASH_SOURCE[0]}")/../.."
-rt staticlib harness_exports
+(cd crates/harness_exports && rt lib)
 work=$(mktemp -d)
 trap 'rm -rf "$work"' EXIT
-gcc -O2 -Wall -Wextra -o "$work/compare" harness/roots/compare.c target/staticlib/libharness_exports.a -lm
+gcc -O2 -Wall -Wextra -o "$work/compare" harness/roots/compare.c crates/harness_exports/out/libharness_exports.a -lm
 "$work/compare"
