@@ -10,6 +10,7 @@ makes those names. Pages, comments and edits follow.
 """
 import os
 import re
+import shutil
 import sys
 
 WORD = r"[^\s:(){}\[\].,;`\"]+"
@@ -62,7 +63,7 @@ def names():
 def library():
     """The words of the kit's library, which keep their spelling."""
     words = set()
-    top = os.path.join(os.path.dirname(os.path.dirname(os.path.realpath("/opt/rattle/bin/rt"))), "rattle")
+    top = os.path.join(os.path.dirname(os.path.dirname(os.path.realpath(shutil.which("rt")))), "rattle")
     for folder, dirs, files in os.walk(top):
         for f in files:
             if f.endswith(".antt"):

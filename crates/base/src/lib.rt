@@ -1,5 +1,6 @@
 // The clustering of a round before any group is tried again. Inner form, for the rounds.
 #![tactic(auto)]
+
 ghost use Rattle.std.specs.Prelude.{◌≡◌, ◌*◌, length};
 ghost use Rattle.distance.specs.Distance.{Readable, dist_at};
 ghost use Rattle.candidates.specs.Candidates.{best_of};

@@ -1,5 +1,6 @@
 // The partition of a round with its weak groups clustered again, and its scores. Inner forms, for the rounds.
 #![tactic(auto)]
+
 ghost use Rattle.std.specs.Prelude.{◌≡◌, ◌*◌, length};
 ghost use Rattle.distance.specs.Distance.{Readable, dist_at};
 ghost use Rattle.silhouette_areas.specs.Scoring.{scores_of};

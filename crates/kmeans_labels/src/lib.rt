@@ -1,6 +1,7 @@
 // k-means called by itself: k-means++ and Lloyd's passes together as `kmeans_labels`, on lent lists.
 // A refusal before the start leaves every list as it was; else the working lists are left zero at their fronts.
 #![tactic(auto)]
+
 ghost use Rattle.std.specs.Prelude.{◌≡◌, ◌≤◌, ◌*◌, length, drop};
 ghost use Rattle.lists.specs.Lists.{cell_at};
 ghost use Rattle.refusals.specs.Table.{work_doubles};

@@ -1,6 +1,7 @@
 // Lloyd's passes called by themselves: `lloyd`, on lent lists.
 // A refusal before the start leaves every list as it was; else the working lists are left zero at their fronts.
 #![tactic(auto)]
+
 ghost use Rattle.std.specs.Prelude.{◌≡◌, ◌*◌, length};
 ghost use Rattle.lists.specs.Lists.{cell_at, numbers};
 ghost use Rattle.lloyd_table.specs.Area.{Centres};

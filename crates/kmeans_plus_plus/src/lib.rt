@@ -1,6 +1,7 @@
 // The centres of k-means called by itself: `kmeans_plus_plus`, on lent lists.
 // A refusal before the start leaves every list as it was; else the working lists are left zero at their fronts.
 #![tactic(auto)]
+
 ghost use Rattle.std.specs.Prelude.{◌≡◌, ◌≤◌, ◌*◌, length, drop};
 ghost use Rattle.lists.specs.Lists.{cell_at};
 ghost use Rattle.distance_columns.specs.Pair.{squared_at};

@@ -1,22 +1,21 @@
 -- A run by the draws that a generator gave along it takes all of them, and ends by none of the refusals of draws.
-use Prim.Native.Nat.{ℕ, zero, suc, ◌+◌, ◌*◌, ◌^◌, ◌<◌, ◌≤◌}
+use Prim.Native.Nat.{ℕ, zero, suc, ◌+◌, ◌^◌, ◌<◌, ◌≤◌}
 use mathlib.Core.Path.{◌≡◌, refl, sym, ◌∙◌, ap, subst}
 use mathlib.Core.Bool.{Bool, true, false, cond}
 use mathlib.Core.List.{List, [], ◌∷◌, ◌++◌, append_assoc}
 use native.Mathlib.Omega.{arith}
 use borrow.Author.Tests.{le-ltb, leb-false}
-use lib.Dec.{ltb, leb}
+use lib.Dec.{leb}
 use lib.ListN.{length, length-append, length-map}
 use lib.Ieee.{Float}
 use Rattle.lists.specs.Lists.{listed, numbers}
 use Rattle.lists.proofs.Listed.{length-listed}
-use Rattle.draws.specs.Draws.{Drawn, drawn, refused}
+use Rattle.draws.specs.Draws.{drawn}
 use Rattle.draws.specs.declared.Stop.{Stop}
 use Rattle.draws.specs.declared.Stop.TheVariants.{Rounds, Short, DrawOutOfRange, ClusteringFailed}
 use Rattle.distance.specs.Distance.{dist_at}
 use Rattle.partition.specs.Partition.{State}
-use Rattle.candidates.specs.Candidates.{Best, nothing, found, best_of}
-use Rattle.candidates.specs.Made.{Stretch, before, repeats_made}
+use Rattle.candidates.specs.Candidates.{Best, nothing, found}
 use Rattle.candidates.proofs.Sourced.{best_made, repeats_long}
 use Rattle.base.specs.Base.{base_of}
 use Rattle.improve_merge.specs.Merging.{weak_items}
@@ -26,7 +25,7 @@ use Rattle.rng_std.specs.Seeds.{key_of}
 use Rattle.rng_std.specs.Words.{word_of}
 use Rattle.rng_std.proofs.Ranges.{word_below}
 use Rattle.plusplus_seeded.proofs.Fine.{append_none}
-use Rattle.round.specs.Round.{Run, done, ended, Opening, started, unstarted, of_best, opening_of, after_opening, after_inner, round_of, need_of}
+use Rattle.round.specs.Round.{Run, done, ended, Opening, of_best, opening_of, after_opening, after_inner, round_of, need_of}
 use Rattle.round.specs.Made.{no_draws, inner_made, own_made, round_made, draws_from}
 use Rattle.round.proofs.Runs.{weak_in, OpeningTook, opening_took}
 

@@ -1,16 +1,15 @@
 -- A round by the draws of a source: how it starts, by the draws of its candidates alone, is how it starts by those of the whole round; and where the source stands behind them.
 use Prim.Native.Nat.{ℕ, suc, ◌+◌, ◌-◌, ◌*◌, ◌<◌, ◌≤◌}
-use mathlib.Core.Path.{◌≡◌, refl, sym, ◌∙◌, ap, subst}
+use mathlib.Core.Path.{◌≡◌, sym, ◌∙◌, ap, subst}
 use mathlib.Core.Bool.{Bool, true, false, cond}
 use mathlib.Core.List.{List, [], ◌++◌}
 use native.Mathlib.Nat.{suc-mul}
 use native.Mathlib.Omega.{arith}
 use borrow.Author.Tests.{lt-leb}
-use lib.Dec.{leb}
 use lib.ListN.{length, drop, length-drop}
 use lib.Seq.{drop-drop}
 use lib.Ieee.{Float}
-use Rattle.draws.specs.Draws.{Drawn, drawn}
+use Rattle.draws.specs.Draws.{drawn}
 use Rattle.draws.specs.declared.Stop.{Stop}
 use Rattle.distance.specs.Distance.{dist_at}
 use Rattle.partition.specs.Partition.{State}

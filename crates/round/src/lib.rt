@@ -1,5 +1,6 @@
 // The start of a round: its base, and the rows of its weak items. Inner forms, for `cluster_kmeans_top`.
 #![tactic(auto)]
+
 ghost use Rattle.std.specs.Prelude.{◌≡◌, false, cond, ◌≤◌, ◌+◌, ◌-◌, ◌*◌, ltb, length, take, drop};
 ghost use Rattle.round.specs.Round.{opening_of};
 ghost use Rattle.round.specs.Made.{own_given, own_moved};

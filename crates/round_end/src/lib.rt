@@ -1,6 +1,7 @@
 // The end of a round: the choice between its base and the partition that the re-clustering of its weak items gives. Inner forms, for
 // `cluster_kmeans_top`.
 #![tactic(auto)]
+
 ghost use Rattle.std.specs.Prelude.{◌*◌, length, take};
 ghost use Rattle.lists.specs.Lists.{part};
 ghost use Rattle.distance.specs.Distance.{dist_at};

@@ -1,6 +1,7 @@
 // Prints published vectors of the ChaCha block function, and draws of StdRng for some seeds. The vectors: RFC 8439, 2.3.2 (20 rounds, one block), and
 // draft-strombergson-chacha-test-vectors-01 (12 rounds: TC1, TC2, TC3, of four blocks the first two). The draws are those of the unchanged crate rand 0.10.
 #![tactic(auto)]
+
 ghost use Rattle.std.specs.Prelude.{◌≤◌, ◌<◌, ◌^◌, ◌+◌, ◌*◌, ◌≡◌, length};
 ghost use Rattle.rng_std.specs.States.{Holds};
 

@@ -1,0 +1,20 @@
+use Prim.Native.Nat.{◌-◌}
+use mathlib.Core.Path.{◌∙◌, ap, refl}
+use native.Mathlib.Omega.{arith}
+use lib.ListN.{length-set}
+use mir.Syntax.{w64}
+use mir.ValLaws.{to_z-of_z}
+use lib.IntN.{pos}
+use Rattle.lists.proofs.Listed.{writes, writes_done, writes_one}
+use Rattle.test_intake.specs.Cases.{signed_of}
+use Rattle.test_intake.proofs.signed.Goals as goal
+
+pub loop-i-init : goal.loop-i-init
+unfolding writes
+loop-i-init c = (refl, omega arith, refl, refl)
+
+pub loop-i-preserved : goal.loop-i-preserved
+loop-i-preserved c = (c.loop-i.invariant.0, omega arith, simp length-set c.loop-i.invariant.2, writes_one _ _ _ c.loop-i.invariant.3 (to_z-of_z w64 c.signed_of.result (record { sfits = c.signed_of.type-inv }) ∙ c.signed_of.ensures ∙ ap signed_of c.word_from.ensures))
+
+pub returns : goal.returns
+returns c = writes_done (pos 0) _ _ _ _ c.loop-i.invariant.3 (omega arith) refl

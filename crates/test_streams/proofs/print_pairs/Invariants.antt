@@ -1,0 +1,6 @@
+use Prim.Native.Nat.{◌*◌, ◌≤◌}
+use Rattle.rng_std.specs.States.{Holds}
+use Rattle.test_streams.proofs.print_pairs.Given as goal
+
+abbrev pub invariant-loop-j : goal.invariant-loop-j
+invariant-loop-j l = Holds l.taken l.rng × (l.taken ≤ 4 * l.j) × (l.j ≤ l.times)
