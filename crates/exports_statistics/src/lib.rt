@@ -1,5 +1,6 @@
 // What other languages call beside the grouping: the statistics, the check of a book in whole millionths, and the draws of a round.
 #![tactic(auto)]
+
 ghost use Rattle.std.specs.Prelude.{◌≡◌, length};
 ghost use Rattle.lists.specs.Lists.{cells};
 ghost use Rattle.stats.specs.Average as stats;

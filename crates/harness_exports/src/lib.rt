@@ -1,6 +1,7 @@
 // What the harness alone calls, to compare and to time: the square root in its two forms, the k-means leaves, and the inner forms
 // by which a round runs. The inner forms have preconditions, and nothing tests what they ask.
 #![tactic(auto)]
+
 ghost use Rattle.std.specs.Prelude.{◌≡◌, ℕ, ◌<◌, ◌≤◌, ◌+◌, ◌*◌, length, take, drop};
 ghost use Rattle.sqrt.specs.Root.{root};
 ghost use Rattle.kmeans_plus_plus.specs.Leaves.{plus_plus_leaf};

@@ -26,7 +26,7 @@ fn group(
     ensures { record {
       answer = answer_of result;
       lists = record {
-        order = order.exit.now;
+        order = order.new;
         sizes = sizes.new;
         scores = scores.new;
         ordered = ordered.new;
@@ -35,7 +35,7 @@ fn group(
       };
     }
         ≡ group_of book.now rows cols repeat (draws_of seeded seed book.now rows repeat draws.now) (record {
-          order = order.entry.now;
+          order = order.old;
           sizes = sizes.old;
           scores = scores.old;
           ordered = ordered.old;
@@ -79,7 +79,7 @@ pub fn get_onc_clusters_with_draws(
     ensures { record {
       answer = answer_of result;
       lists = record {
-        order = order.exit.now;
+        order = order.new;
         sizes = sizes.new;
         scores = scores.new;
         ordered = ordered.new;
@@ -88,7 +88,7 @@ pub fn get_onc_clusters_with_draws(
       };
     }
         ≡ group_of book.now rows cols repeat draws.now (record {
-          order = order.entry.now;
+          order = order.old;
           sizes = sizes.old;
           scores = scores.old;
           ordered = ordered.old;
@@ -118,7 +118,7 @@ pub fn get_onc_clusters_with_seed(
     ensures { record {
       answer = answer_of result;
       lists = record {
-        order = order.exit.now;
+        order = order.new;
         sizes = sizes.new;
         scores = scores.new;
         ordered = ordered.new;
@@ -127,7 +127,7 @@ pub fn get_onc_clusters_with_seed(
       };
     }
         ≡ seeded_of book.now rows cols repeat seed (record {
-          order = order.entry.now;
+          order = order.old;
           sizes = sizes.old;
           scores = scores.old;
           ordered = ordered.old;
@@ -169,7 +169,7 @@ pub fn get_onc_clusters(
     ensures { record {
       answer = answer_of result;
       lists = record {
-        order = order.exit.now;
+        order = order.new;
         sizes = sizes.new;
         scores = scores.new;
         ordered = ordered.new;
@@ -178,7 +178,7 @@ pub fn get_onc_clusters(
       };
     }
         ≡ seeded_of book.now rows cols repeat default_seed (record {
-          order = order.entry.now;
+          order = order.old;
           sizes = sizes.old;
           scores = scores.old;
           ordered = ordered.old;

@@ -1,5 +1,6 @@
 // A run within the limits of a call: the rounds, the ordered matrix, and the working lists wiped. Inner forms, for the public call.
 #![tactic(auto)]
+
 ghost use Rattle.std.specs.Prelude.{◌≡◌, ◌*◌, length};
 ghost use Rattle.lists.specs.Lists.{listed};
 ghost use Rattle.onc_answers.specs.Answers.{answer_of};
@@ -76,7 +77,7 @@ pub fn finish(
     ensures { record {
       answer = answer_of result;
       lists = record {
-        order = order.exit.now;
+        order = order.new;
         sizes = sizes.new;
         scores = scores.new;
         ordered = ordered.new;
@@ -85,7 +86,7 @@ pub fn finish(
       };
     }
         ≡ ran book.now n (run_of book.now n repeat (draws_of seeded seed book.now n repeat draws.now)) (record {
-          order = order.entry.now;
+          order = order.old;
           sizes = sizes.old;
           scores = scores.old;
           ordered = ordered.old;

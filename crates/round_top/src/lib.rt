@@ -1,6 +1,7 @@
 // A round: its start, the re-clustering of its weak items, which is the whole round again on a book of their own, and the choice between the
 // two partitions. Inner form, for the public call.
 #![tactic(auto)]
+
 ghost use Rattle.std.specs.Prelude.{◌*◌, length, take};
 ghost use Rattle.round.specs.Round.{round_of};
 ghost use Rattle.round.specs.Made.{round_given};

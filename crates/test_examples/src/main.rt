@@ -6,6 +6,7 @@
 // and as found, then the case's number from 1, its leaf as the kind, and the words from which to which it stands. Where
 // only the working list is not as it must be, the line starts with the case's number.
 #![tactic(auto)]
+
 ghost use Rattle.std.specs.Prelude.{◌+◌, ◌<◌, ◌≤◌, ◌≡◌, ◌&&◌, length, take, replicate};
 ghost use Rattle.refusals.specs.Table.{refusal_of};
 ghost use Rattle.stats.specs.Average.{averaged_of};

@@ -5,6 +5,7 @@
 // found, then the case's number from 1 and the words from which to which it stands.
 // Two books too long for the text, of 256 and of 257 names, are made in place.
 #![tactic(auto)]
+
 ghost use Rattle.std.specs.Prelude.{◌*◌, ◌<◌, ◌≤◌, ◌≡◌, [], ◌∷◌, length};
 ghost use Rattle.intake_answers.specs.Answers.{refusal_of};
 ghost use Rattle.intake.specs.Intake.{intake_of};

@@ -10,6 +10,7 @@
 // says when one is answered as recorded. For a case that differs the program prints the number, place and draws read, as
 // expected and as found, then the case's number from 1, its leaf as the kind, and the words from which to which it stands.
 #![tactic(auto)]
+
 ghost use Rattle.std.specs.Prelude.{◌<◌, ◌≤◌, ◌≡◌, [], ◌∷◌, length, take, replicate};
 ghost use Rattle.kmeans_answers.specs.Answers.{refusal_of, read_of};
 ghost use Rattle.test_words.specs.Words.{doubles_from, words_from};

@@ -106,7 +106,7 @@ fn same_run(
     ensures { result ≡ right_run text.now c (record {
       answer = answer_of a;
       lists = record {
-        order = order.entry.now;
+        order = order.now;
         sizes = sizes.now;
         scores = scores.now;
         ordered = ordered.now;
@@ -140,7 +140,7 @@ fn right_run(
 ) -> bool
     requires { (c.expected ≤ 94725) × (c.order ≤ 16) × (c.sizes ≤ 16) × (c.scores ≤ 16) }
     ensures { result ≡ right_run text.now c (group_of cells.now c.rows c.cols c.repeat draws.now (record {
-      order = order.entry.now;
+      order = order.old;
       sizes = sizes.old;
       scores = scores.old;
       ordered = ordered.old;
@@ -168,7 +168,7 @@ fn right_worked(
 ) -> bool
     requires { (c.expected ≤ 94725) × (c.order ≤ 16) × (c.sizes ≤ 16) × (c.scores ≤ 16) × (c.floats ≤ 4400) × (c.numbers ≤ 4000) }
     ensures { result ≡ right_run text.now c (group_of cells.now c.rows c.cols c.repeat draws.now (record {
-      order = order.entry.now;
+      order = order.old;
       sizes = sizes.old;
       scores = scores.old;
       ordered = ordered.old;

@@ -79,7 +79,7 @@ fn same_run(
     ensures { result ≡ right_run text.now c (record {
       answer = answer_of a;
       lists = record {
-        order = order.entry.now;
+        order = order.now;
         sizes = sizes.now;
         scores = scores.now;
         ordered = ordered.now;
@@ -113,7 +113,7 @@ fn called(
     ensures { record {
       answer = answer_of result;
       lists = record {
-        order = order.exit.now;
+        order = order.new;
         sizes = sizes.new;
         scores = scores.new;
         ordered = ordered.new;
@@ -122,7 +122,7 @@ fn called(
       };
     }
         ≡ seeded_of cells.now c.rows c.cols c.repeat (seed_of c seed) (record {
-          order = order.entry.now;
+          order = order.old;
           sizes = sizes.old;
           scores = scores.old;
           ordered = ordered.old;
@@ -155,7 +155,7 @@ fn right_run(
 ) -> bool
     requires { (c.expected ≤ 94725) × (c.order ≤ 16) × (c.sizes ≤ 16) × (c.scores ≤ 16) }
     ensures { result ≡ right_run text.now c (seeded_of cells.now c.rows c.cols c.repeat (seed_of c seed) (record {
-      order = order.entry.now;
+      order = order.old;
       sizes = sizes.old;
       scores = scores.old;
       ordered = ordered.old;
@@ -183,7 +183,7 @@ fn right_worked(
 ) -> bool
     requires { (c.expected ≤ 94725) × (c.order ≤ 16) × (c.sizes ≤ 16) × (c.scores ≤ 16) × (c.floats ≤ 4400) × (c.numbers ≤ 4000) }
     ensures { result ≡ right_run text.now c (seeded_of cells.now c.rows c.cols c.repeat (seed_of c seed) (record {
-      order = order.entry.now;
+      order = order.old;
       sizes = sizes.old;
       scores = scores.old;
       ordered = ordered.old;

@@ -1,4 +1,3 @@
-use Prim.Native.Nat.{◌-◌}
 use mathlib.Core.Path.{◌∙◌, refl}
 use native.Mathlib.Omega.{arith}
 use lib.ListN.{length-set}
@@ -13,7 +12,7 @@ unfolding writes
 loop-t-init c = (refl, omega arith, c.requires.1, refl)
 
 pub loop-t-preserved : goal.loop-t-preserved
-loop-t-preserved c = (refl, omega arith, simp length-set c.loop-t.invariant.2, writes_one _ _ _ c.loop-t.invariant.3 (to_z-of_z w64 c.made_cell.result (record { sfits = c.made_cell.type-inv }) ∙ c.made_cell.ensures))
+loop-t-preserved c = (refl, omega arith, simp length-set c.loop-t.invariant.2, writes_one _ _ _ c.loop-t.invariant.3 (to_z-of_z w64 c.made_cell.result (record { sfits = c.made_cell.type_inv }) ∙ c.made_cell.ensures))
 
 pub returns : goal.returns
 returns c = writes_done (pos 0) _ _ _ _ c.loop-t.invariant.3 (omega arith) c.requires.1

@@ -1,4 +1,3 @@
-use Prim.Native.Nat.{◌-◌}
 use mathlib.Core.Path.{refl}
 use Rattle.test_counts.proofs.Counting.{counted_none, counted_more, counted_all}
 use Rattle.test_intake.specs.Cases.{counts_in}
@@ -11,7 +10,7 @@ pub loop-at-preserved : goal.loop-at-preserved
 loop-at-preserved c =
     let i = c.loop-at.invariant in
     let e = c.read_case-c.ensures in
-    (i.0, counted_more _ _ _ _ i.1 c.loop-at-test.true e.0 e.1.1 c.right_case-right.ensures c.counted-counts.ensures)
+    (i.0, counted_more _ _ _ _ i.1 c.loop-at-test.true e.value e.cells_bound.1 c.right_case-right.ensures c.counted-counts.ensures)
 
 pub returns : goal.returns
 unfolding counts_in

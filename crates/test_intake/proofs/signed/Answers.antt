@@ -1,4 +1,3 @@
-use Prim.Native.Nat.{◌-◌}
 use mathlib.Core.Path.{◌∙◌, ap, refl}
 use native.Mathlib.Omega.{arith}
 use lib.ListN.{length-set}
@@ -14,7 +13,7 @@ unfolding writes
 loop-i-init c = (refl, omega arith, refl, refl)
 
 pub loop-i-preserved : goal.loop-i-preserved
-loop-i-preserved c = (c.loop-i.invariant.0, omega arith, simp length-set c.loop-i.invariant.2, writes_one _ _ _ c.loop-i.invariant.3 (to_z-of_z w64 c.signed_of.result (record { sfits = c.signed_of.type-inv }) ∙ c.signed_of.ensures ∙ ap signed_of c.word_from.ensures))
+loop-i-preserved c = (c.loop-i.invariant.0, omega arith, simp length-set c.loop-i.invariant.2, writes_one _ _ _ c.loop-i.invariant.3 (to_z-of_z w64 c.signed_of.result (record { sfits = c.signed_of.type_inv }) ∙ c.signed_of.ensures ∙ ap signed_of c.word_from.ensures))
 
 pub returns : goal.returns
 returns c = writes_done (pos 0) _ _ _ _ c.loop-i.invariant.3 (omega arith) refl

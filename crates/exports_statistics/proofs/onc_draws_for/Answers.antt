@@ -1,0 +1,15 @@
+use borrow.Author.Tests.{le-ltb, lt-ltb}
+use Rattle.exports_statistics.specs.Draws.{draws_for}
+use Rattle.exports_statistics.proofs.onc_draws_for.Goals as goal
+
+pub returns-then-names-lt2 : goal.returns-then-names-lt2
+unfolding draws_for
+returns-then-names-lt2 c = rw (lt-ltb _ 2 c.if-names-lt2.true)
+
+pub returns-then-names-gt256 : goal.returns-then-names-gt256
+unfolding draws_for
+returns-then-names-gt256 c = rw (le-ltb _ 2 c.if-names-lt2.false, lt-ltb 256 _ c.if-names-gt256.true)
+
+pub returns : goal.returns
+unfolding draws_for
+returns c = rw (le-ltb _ 2 c.if-names-lt2.false, le-ltb 256 _ c.if-names-gt256.false) c.draws_for.ensures
