@@ -1,5 +1,6 @@
 // The grouping, with the draws in a list or by a seed, as other languages call it. exports_statistics has the other calls for them.
 #![tactic(auto)]
+
 ghost use Rattle.std.specs.Prelude.{◌≡◌, false, length};
 ghost use Rattle.onc_checks.specs.Checks.{shape_of};
 ghost use Rattle.onc.specs.Onc.{group_of, default_seed, seeded_of};

@@ -1,6 +1,7 @@
 // Reads a book, its repeats and its draws from standard input and prints its grouping, or the number by which it is refused.
 // crates/text_program/specs/Program.antt says what is printed for which text.
 #![tactic(auto)]
+
 ghost use Rattle.std.specs.Prelude.{◌<◌, length};
 
 fn main() {

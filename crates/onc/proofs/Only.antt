@@ -1,7 +1,6 @@
 -- What DrawsRead says is true of one run only (specs/Demands.antt).
 use Prim.Native.Nat.{ℕ, ◌+◌, ◌<◌, ◌≤◌}
 use mathlib.Core.Path.{◌≡◌, refl, sym, ◌∙◌, ap, ap₂, subst}
-use mathlib.Core.Bool.{true, false}
 use mathlib.Core.List.{List, [], ◌∷◌, ◌++◌}
 use mathlib.Core.Logic.{by_cases}
 use native.Mathlib.Decide.{dec_lt}
@@ -18,7 +17,7 @@ use Rattle.base.specs.Base.{base_of}
 use Rattle.row_numbers.specs.Rows.{rows_of}
 use Rattle.improve_merge.specs.Merging.{weak_items}
 use Rattle.round.specs.Round.{Run, done, ended, need_of, total_of}
-use Rattle.onc.specs.Demands.{search_of, Finds, weak_in, merged_in, improves, Reached, Made, few_weak, improved, not_improved, rounds_of, EndsBy, DrawsRead}
+use Rattle.onc.specs.Demands.{search_of, Finds, weak_in, merged_in, improves, Reached, Made, few_weak, improved, not_improved, EndsBy, DrawsRead}
 use Rattle.onc.proofs.Groupings.{draws_append}
 use Rattle.onc.proofs.Rounds.{same_round, Passed, passed}
 

@@ -6,7 +6,7 @@ use mathlib.Core.List.{List, [], ◌∷◌}
 use native.Mathlib.Omega.{arith}
 use lib.Ieee.{Float, add, sub, mul, div, of_int, of_bits, to_bits, lt, le, eq, is_nan}
 use Rattle.lists.specs.Lists.{listed, numbers, first_to}
-use Rattle.lists.specs.Sums.{zero64, one64, sum_to, all_to, fold_if}
+use Rattle.lists.specs.Sums.{zero64, sum_to, all_to, fold_if}
 use Rattle.lists.proofs.First.{first_found}
 use Rattle.sqrt.specs.Root.{root}
 use Rattle.draws.specs.Draws.{drawn, takes}

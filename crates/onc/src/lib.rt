@@ -1,5 +1,6 @@
 // The grouping of a book of correlations, with the draws in a list or by a seed.
 #![tactic(auto)]
+
 ghost use Rattle.std.specs.Prelude.{◌≡◌};
 ghost use Rattle.onc_answers.specs.Answers.{answer_of};
 ghost use Rattle.onc_run.specs.Run.{draws_of};

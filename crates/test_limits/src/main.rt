@@ -1,6 +1,7 @@
 // Asks for the grouping of a book of 256 names and of one of 257, every cell 1, with lists of their lengths and no draws.
 // 256 rows pass: the run is refused by 7, for its draws. 257 are refused by 4.
 #![tactic(auto)]
+
 ghost use Rattle.std.specs.Prelude.{◌≤◌, ◌≡◌, length};
 
 use onc_answers::Onc;

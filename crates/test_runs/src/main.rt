@@ -11,6 +11,7 @@
 // For a case that differs the program prints the number, place, groups and draws read, as expected and as found, then the
 // case's number from 1, its kind, and the words from which to which it stands. harness/grouping/run.sh records the cases.
 #![tactic(auto)]
+
 ghost use Rattle.std.specs.Prelude.{◌<◌, ◌≤◌, ◌≡◌, length, take, replicate};
 ghost use Rattle.onc_answers.specs.Answers.{answer_of};
 ghost use Rattle.onc.specs.Onc.{group_of};

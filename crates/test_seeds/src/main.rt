@@ -5,6 +5,7 @@
 // Lent lists hold 999 or 7.0 in each cell before the call. specs/Seeds.antt says when a case is answered as recorded, and a case that
 // differs is printed as in test_runs. harness/grouping/run.sh records the cases.
 #![tactic(auto)]
+
 ghost use Rattle.std.specs.Prelude.{◌<◌, ◌≤◌, ◌≡◌, length, take, replicate};
 ghost use Rattle.onc_answers.specs.Answers.{answer_of};
 ghost use Rattle.onc.specs.Onc.{seeded_of};

@@ -6,6 +6,7 @@
 // For a case that differs the program prints what is expected and what was found, then the case's number from 1 and the
 // bytes from which to which it stands. harness/grouping/run.sh records the cases.
 #![tactic(auto)]
+
 ghost use Rattle.std.specs.Prelude.{◌+◌, ◌<◌, ◌≤◌, ◌≡◌, length};
 ghost use Rattle.test_texts.specs.Texts.{first_of, case_at, same_bytes, right_text, right_case, counts_in};
 

@@ -1,5 +1,6 @@
 // What the grouping program prints for the text that it reads.
 #![tactic(auto)]
+
 ghost use Rattle.std.specs.Prelude.{◌≡◌, ◌*◌, ◌≤◌, length, replicate};
 ghost use Rattle.lists.specs.Sums.{zero64};
 ghost use Rattle.text_written.specs.Answers.{refusal_of, bytes_of};
