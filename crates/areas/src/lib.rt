@@ -57,7 +57,7 @@ fn square_row(area: &mut [f64], m: usize, i: usize, sums: &mut [f64])
     lists::gather(area, third + i, m, at, i);
     let from = at + i;
     let end = at + m;
-    lists::copy(sums, &mut area[from..end]);
+    area[from..end].copy_from_slice(sums);
 }
 
 // The squared pair distances, row by row, each pair worked out once.
@@ -76,7 +76,7 @@ fn square_all(area: &mut [f64], m: usize)
     requires { Turned area.old m }
     ensures { area.new ≡ put (2 * (m * m)) (m * m) area.old (matrix_of (squared_at (points_at area.old m) m) m) }
 {
-    let mut sums = lists::row_buffer();
+    let mut sums = lists::buffer::<f64, 256>(0.0);
     square_rows(area, m, &mut sums[..m]);
 }
 

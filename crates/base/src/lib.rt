@@ -95,7 +95,7 @@ pub fn cluster_kmeans_base(
         (repeats_moved (dist_at book.now n rows.now) (length rows.now) repeat src) result order.new sizes.new scores.new }
 {
     let m = rows.len();
-    let mut labels = lists::number_buffer();
+    let mut labels = lists::buffer::<usize, 256>(0);
     base_of_book(
         book,
         n,

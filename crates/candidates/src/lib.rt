@@ -84,8 +84,8 @@ fn try_k(
             if !choice::replaces(stat, mean, kept) {
                 return Searched::Done(next, kept);
             }
-            lists::copy_numbers(new_labels, labels);
-            lists::copy(new_scores, scores);
+            labels.copy_from_slice(new_labels);
+            scores.copy_from_slice(new_scores);
             Searched::Done(next, Kept::Candidate(stat, mean))
         }
     }
@@ -177,9 +177,9 @@ pub fn best_candidate(
     requires { Prepared area.old m × Enough m repeat draws.now src × (length labels.old ≡ m) × (length scores.old ≡ m) }
     ensures { SearchedBy (best_of (points_at area.old m) m repeat src.at (repeats_given (points_at area.old m) m repeat src draws.now)) (repeats_moved (points_at area.old m) m repeat src) result labels.new scores.new }
 {
-    let mut new_labels = lists::number_buffer();
-    let mut new_scores = lists::row_buffer();
-    let mut rng = rng_std::rng_buffer();
+    let mut new_labels = lists::buffer::<usize, 256>(0);
+    let mut new_scores = lists::buffer::<f64, 256>(0.0);
+    let mut rng = lists::buffer::<u32, 72>(0);
     plusplus_seeded::start_rng(src.seeded, src.seed, src.taken, &mut rng);
     each_repeat(
         area,

@@ -68,18 +68,12 @@ pub fn choose<'a>(
         × (sizes.new ≡ chosen new_mean old_mean old_sizes.now new_sizes.now)
         × (scores.new ≡ chosen new_mean old_mean old_scores.now new_scores.now) }
 {
-    lists::copy_numbers(
-        check_improve_clusters(new_mean, old_mean, old_order, new_order),
-        order,
-    );
-    lists::copy_numbers(
-        check_improve_clusters(new_mean, old_mean, old_sizes, new_sizes),
-        sizes,
-    );
+    order.copy_from_slice(check_improve_clusters(new_mean, old_mean, old_order, new_order));
+    sizes.copy_from_slice(check_improve_clusters(new_mean, old_mean, old_sizes, new_sizes));
     if new_mean > old_mean {
-        lists::copy(new_scores, scores);
+        scores.copy_from_slice(new_scores);
         return new_groups;
     }
-    lists::copy(old_scores, scores);
+    scores.copy_from_slice(old_scores);
     old_groups
 }

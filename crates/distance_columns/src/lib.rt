@@ -98,7 +98,7 @@ pub fn squared_tail(own: &[f64], across: &[f64], from: usize, sums: &mut [f64])
     requires { Tail own.now across.now from sums.old }
     ensures { sums.new ≡ sums_from own.now across.now from (length own.now) }
 {
-    lists::fill(sums, 0.0);
+    sums.fill(0.0);
     let c = add_fours(own, across, from, sums);
     add_rest(own, across, from, c, sums);
 }

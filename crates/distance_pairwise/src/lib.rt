@@ -19,7 +19,7 @@ fn point_pairs(points: &[f64], n: usize, area: &mut [f64])
     ensures { area.new ≡ pairs_area (cell_at points.now n) n }
 {
     let second = n * n;
-    lists::copy(points, &mut area[..second]);
+    area[..second].copy_from_slice(points);
     areas::pairs_in(area, n);
 }
 
@@ -30,7 +30,7 @@ fn hand_out(m: usize, out: &mut [f64], floats: &mut [f64])
 {
     let pairs = 3 * (m * m);
     let end = pairs + m * m;
-    lists::copy(&floats[pairs..end], out);
+    out.copy_from_slice(&floats[pairs..end]);
     refusals::wipe_doubles(m, floats);
 }
 

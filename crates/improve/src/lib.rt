@@ -55,7 +55,7 @@ fn rescore(
     ensures { scores.new ≡ scores_of (dist_at book.now n rows.now) (length rows.now) (label_of (cut count sizes.now order.now)) }
 {
     let m = rows.len();
-    let mut labels = lists::number_buffer();
+    let mut labels = lists::buffer::<usize, 256>(0);
     rescore_with(
         book,
         n,
@@ -82,7 +82,7 @@ fn mean_quality(order: &[usize], sizes: &[usize], count: usize, scores: &[f64]) 
     requires { Sized (length scores.now) count order.now sizes.now }
     ensures { result ≡ mean_quality (state_of count sizes.now order.now scores.now) }
 {
-    let mut qs = lists::row_buffer();
+    let mut qs = lists::buffer::<f64, 256>(0.0);
     mean_with(order, sizes, scores, &mut qs[..count])
 }
 

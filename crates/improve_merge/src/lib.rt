@@ -51,8 +51,8 @@ pub fn weak_items(
     ensures { WeakListed (state_of count sizes.now order.now scores.now) result.groups result.items result.mean items.old items.new }
 {
     let m = scores.len();
-    let mut qs = lists::row_buffer();
-    let mut counts = lists::number_buffer();
+    let mut qs = lists::buffer::<f64, 256>(0.0);
+    let mut counts = lists::buffer::<usize, 256>(0);
     weak_with(
         order,
         sizes,
@@ -91,7 +91,7 @@ fn kept_groups(
     requires { Sized (length scores.now) count order.now sizes.now × (length out.old ≡ length scores.now) × (length counts.old ≡ length scores.now) }
     ensures { Kept (kept_groups scores.now (cut count sizes.now order.now)) result.groups result.items out.old out.new counts.new }
 {
-    let mut qs = lists::row_buffer();
+    let mut qs = lists::buffer::<f64, 256>(0.0);
     kept_with(order, sizes, scores, out, counts, &mut qs[..count])
 }
 
@@ -113,7 +113,7 @@ fn append_groups(
     row_numbers::translate(items, order, &mut out[from..end]);
     let first = kept.groups;
     let last = first + count;
-    lists::copy_numbers(&sizes[..count], &mut counts[first..last]);
+    counts[first..last].copy_from_slice(&sizes[..count]);
 }
 
 // The kept groups, then those of the inner book; answers how many they are. `items` has the weak items.

@@ -37,7 +37,7 @@ pub fn prepare(points: &[f64], m: usize, area: &mut [f64])
     ensures { Held area.new m × (take (m * m) area.new ≡ points.now) }
 {
     let first = m * m;
-    lists::copy(points, &mut area[..first]);
+    area[..first].copy_from_slice(points);
     let four = 4 * first;
     areas::squares_in(&mut area[..four], m);
 }
@@ -82,7 +82,7 @@ pub fn seed_in(
         seed: 0,
         taken: 0,
     };
-    let mut none = rng_std::rng_buffer();
+    let mut none = lists::buffer::<u32, 72>(0);
     match seed_by_in(area, m, draws, src, centres, weights, &mut none) {
         Supplied::Stopped(s) => Seeded::Stopped(s),
         Supplied::Done(next) => Seeded::Done(next.at),
@@ -132,8 +132,8 @@ pub fn labels_by(
     ensures rng_of { RngOf (seed_moved (points_at area.old m) m k src) rng.new }
 {
     if m <= 32 {
-        let mut centres = lists::short_numbers();
-        let mut weights = lists::short_row();
+        let mut centres = lists::buffer::<usize, 32>(0);
+        let mut weights = lists::buffer::<f64, 32>(0.0);
         return cluster(
             area,
             m,
@@ -145,8 +145,8 @@ pub fn labels_by(
             rng,
         );
     }
-    let mut centres = lists::number_buffer();
-    let mut weights = lists::row_buffer();
+    let mut centres = lists::buffer::<usize, 256>(0);
+    let mut weights = lists::buffer::<f64, 256>(0.0);
     cluster(
         area,
         m,
@@ -178,7 +178,7 @@ pub fn labels_in(
         seed: 0,
         taken: 0,
     };
-    let mut none = rng_std::rng_buffer();
+    let mut none = lists::buffer::<u32, 72>(0);
     match labels_by(area, m, k, draws, src, labels, &mut none) {
         Labelled::Stopped(s) => Clustered::Stopped(s),
         Labelled::Done(next, ended) => Clustered::Done(next.at, ended),

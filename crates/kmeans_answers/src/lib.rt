@@ -135,5 +135,5 @@ pub fn wipe(n: usize, floats: &mut [f64], numbers: &mut [usize])
 {
     refusals::wipe_doubles(n, floats);
     let count = 320 * n;
-    lists::fill_numbers(&mut numbers[..count], 0);
+    numbers[..count].fill(0);
 }

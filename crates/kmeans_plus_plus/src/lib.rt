@@ -34,7 +34,7 @@ fn centres_apart(
     match kmeans::seed_in(area, n, draws, 0, found, weights) {
         Seeded::Stopped(s) => Kmeans::Stopped(s),
         Seeded::Done(next) => {
-            lists::copy_numbers(found, centres);
+            centres.copy_from_slice(found);
             Kmeans::Done(next)
         }
     }
@@ -54,8 +54,8 @@ fn centres_alone(
         ≡ took_of draws.now (seeding (squared_at (cell_at points.now n) n) n k 0 draws.now) centres.old }
 {
     kmeans::prepare(points, n, area);
-    let mut found = lists::number_buffer();
-    let mut weights = lists::row_buffer();
+    let mut found = lists::buffer::<usize, 256>(0);
+    let mut weights = lists::buffer::<f64, 256>(0.0);
     centres_apart(area, n, draws, centres, &mut found[..k], &mut weights[..n])
 }
 

@@ -9,47 +9,6 @@ ghost use Rattle.lists.specs.Lists.{row, cells, cell_at, listed, matrix_of, put,
 ghost use Rattle.lists.specs.Sums as sums;
 ghost use Rattle.lists.specs.Sums.{counted, sum_to};
 
-// x in each place.
-pub fn fill(xs: &mut [f64], x: f64)
-    ensures { xs.new ≡ replicate (length xs.old) x }
-{
-    let n = xs.len();
-    for i in 0..n {
-        xs[i] = x;
-    }
-}
-
-pub fn fill_numbers(xs: &mut [usize], x: usize)
-    ensures { xs.new ≡ replicate (length xs.old) x }
-{
-    let n = xs.len();
-    for i in 0..n {
-        xs[i] = x;
-    }
-}
-
-// Copies the first list over the second. Inner form: they are as long as each other.
-pub fn copy(from: &[f64], to: &mut [f64])
-    requires { length from.now ≡ length to.old }
-    ensures { to.new ≡ from.now }
-{
-    let n = from.len();
-    for i in 0..n {
-        to[i] = from[i];
-    }
-}
-
-// The same for numbers. Inner form.
-pub fn copy_numbers(from: &[usize], to: &mut [usize])
-    requires { length from.now ≡ length to.old }
-    ensures { to.new ≡ from.now }
-{
-    let n = from.len();
-    for i in 0..n {
-        to[i] = from[i];
-    }
-}
-
 // Cells that lie `step` apart, copied one behind the other to a place further on in the same list. Inner form: the
 // cells that are read lie in front of `to`.
 pub fn gather(xs: &mut [f64], from: usize, step: usize, to: usize, count: usize)
@@ -99,13 +58,12 @@ pub fn transpose(from: &[f64], n: usize, out: &mut [f64])
 pub fn first_from(limit: usize, xs: &[usize]) -> usize
     ensures { result ≡ first_from limit xs.now }
 {
-    let n = xs.len();
-    for k in 0..n {
-        if limit <= xs[k] {
+    for (k, x) in xs.iter().enumerate() {
+        if limit <= *x {
             return k;
         }
     }
-    n
+    xs.len()
 }
 
 // x where it is below b, else b.
@@ -115,31 +73,18 @@ pub fn lesser(x: f64, b: f64) -> f64
     if x < b { x } else { b }
 }
 
-// Room for a row of cells. Only its length is promised, so that no proof goes through 256 cells.
-pub fn row_buffer() -> [f64; 256]
-    ensures { length result ≡ 256 }
+// A list of N places, with x in each. Only its length is promised: the N elements would stand in every goal, one by one.
+pub fn buffer<T: Copy, const N: usize>(x: T) -> [T; N]
+    ensures { length result ≡ N }
 {
-    [0.0; 256]
+    [x; N]
 }
 
-// The same for a row of numbers.
-pub fn number_buffer() -> [usize; 256]
-    ensures { length result ≡ 256 }
+// The same, with the elements promised.
+pub fn filled<T: Copy, const N: usize>(x: T) -> [T; N]
+    ensures { result ≡ replicate N x }
 {
-    [0; 256]
-}
-
-// Room for at most 32 cells, and for 32 numbers: a list of 256 places takes longer to make than a step over few items. Only the length is promised.
-pub fn short_row() -> [f64; 32]
-    ensures { length result ≡ 32 }
-{
-    [0.0; 32]
-}
-
-pub fn short_numbers() -> [usize; 32]
-    ensures { length result ≡ 32 }
-{
-    [0; 32]
+    [x; N]
 }
 
 // +infinity.
@@ -169,9 +114,8 @@ pub fn sum_of(values: &[f64]) -> f64
     ensures { result ≡ sum_to (cells values.now) (length values.now) }
 {
     let mut sum = 0.0;
-    let n = values.len();
-    for i in 0..n {
-        sum = sum + values[i];
+    for x in values {
+        sum = sum + *x;
     }
     sum
 }

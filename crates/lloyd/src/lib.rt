@@ -33,7 +33,7 @@ fn run(
             return Ended::Converged;
         }
         lloyd_pass::refresh(area, labels, fresh, k, dists, sums);
-        lists::copy_numbers(fresh, labels);
+        labels.copy_from_slice(fresh);
     }
     Ended::PassLimit
 }
@@ -55,7 +55,7 @@ fn lloyd_with(
     ensures area_unchanged { take (4 * (m * m)) area.new ≡ take (4 * (m * m)) area.old }
 {
     lloyd_table::first_table(area, m, centres);
-    lists::fill_numbers(labels, centres.len());
+    labels.fill(centres.len());
     run(area, centres, labels, fresh, dists, sums)
 }
 
@@ -68,9 +68,9 @@ pub fn lloyd_in(area: &mut [f64], m: usize, centres: &[usize], labels: &mut [usi
     ensures area_unchanged { take (4 * (m * m)) area.new ≡ take (4 * (m * m)) area.old }
 {
     if m <= 32 {
-        let mut fresh = lists::short_numbers();
-        let mut dists = lists::short_row();
-        let mut sums = lists::short_row();
+        let mut fresh = lists::buffer::<usize, 32>(0);
+        let mut dists = lists::buffer::<f64, 32>(0.0);
+        let mut sums = lists::buffer::<f64, 32>(0.0);
         return lloyd_with(
             area,
             m,
@@ -81,9 +81,9 @@ pub fn lloyd_in(area: &mut [f64], m: usize, centres: &[usize], labels: &mut [usi
             &mut sums[..m],
         );
     }
-    let mut fresh = lists::number_buffer();
-    let mut dists = lists::row_buffer();
-    let mut sums = lists::row_buffer();
+    let mut fresh = lists::buffer::<usize, 256>(0);
+    let mut dists = lists::buffer::<f64, 256>(0.0);
+    let mut sums = lists::buffer::<f64, 256>(0.0);
     lloyd_with(
         area,
         m,

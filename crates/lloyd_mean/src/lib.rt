@@ -35,7 +35,7 @@ fn sum_members(points: &[f64], labels: &[usize], l: usize, out: &mut [f64])
     requires { (length labels.now ≤ 256) × (length points.now ≡ length labels.now * length labels.now) × (length out.old ≡ length labels.now) }
     ensures { out.new ≡ listed (λ c. sum_if (in_group (numbers labels.now) l) (λ i. cell_at points.now (length labels.now) i c) (length labels.now)) (length labels.now) }
 {
-    lists::fill(out, 0.0);
+    out.fill(0.0);
     let m = labels.len();
     for i in 0..m {
         if labels[i] != l {
@@ -71,13 +71,6 @@ fn distances_with(
     distance_columns::squared_tail(mean, across, 0, out);
 }
 
-// Room for a mean of at most 32 cells: most means are of small rounds, and a list of 256 cells takes longer to make than such a mean.
-fn short_buffer() -> [f64; 32]
-    ensures { 32 ≡ length result }
-{
-    [0.0; 32]
-}
-
 // The squared distance of each item to the mean of the n members of group l. Inner form: `across` is the transpose of `points`.
 pub fn mean_distances(
     points: &[f64],
@@ -92,10 +85,10 @@ pub fn mean_distances(
 {
     let m = labels.len();
     if m <= 32 {
-        let mut mean = short_buffer();
+        let mut mean = lists::buffer::<f64, 32>(0.0);
         distances_with(points, across, labels, l, n, &mut mean[..m], out);
         return;
     }
-    let mut mean = lists::row_buffer();
+    let mut mean = lists::buffer::<f64, 256>(0.0);
     distances_with(points, across, labels, l, n, &mut mean[..m], out);
 }

@@ -11,7 +11,7 @@ ghost use Rattle.lloyd_members.specs.Members.{moved_mark};
 pub fn group_sizes(labels: &[usize], sizes: &mut [usize])
     ensures { sizes.new ≡ listed (group_size (numbers labels.now) (length labels.now)) (length sizes.old) }
 {
-    lists::fill_numbers(sizes, 0);
+    sizes.fill(0);
     let k = sizes.len();
     let m = labels.len();
     for i in 0..m {
@@ -38,7 +38,7 @@ pub fn mark_moved(old: &[usize], labels: &[usize], marks: &mut [usize])
     requires { length old.now ≡ length labels.now }
     ensures { marks.new ≡ listed (moved_mark old.now labels.now (length labels.now)) (length marks.old) }
 {
-    lists::fill_numbers(marks, 0);
+    marks.fill(0);
     let m = labels.len();
     for i in 0..m {
         let a = old[i];

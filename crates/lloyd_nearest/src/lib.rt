@@ -43,8 +43,8 @@ pub fn assign(table: &[f64], k: usize, dists: &mut [f64], labels: &mut [usize])
     ensures labels_after { labels.new ≡ listed (λ i. (nearest_to (λ l. cells (row table.now (length labels.old) l) i) k).at) (length labels.old) }
 {
     let m = labels.len();
-    lists::fill(dists, lists::infinity());
-    lists::fill_numbers(labels, 0);
+    dists.fill(lists::infinity());
+    labels.fill(0);
     for l in 0..k {
         absorb(lists::row_of(table, m, l), l, dists, labels);
     }

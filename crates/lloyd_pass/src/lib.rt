@@ -56,13 +56,6 @@ fn refresh_rows(
     }
 }
 
-// Room for the sizes or the marks of at most 32 groups: a list of 256 numbers takes longer to make than a pass over few items.
-fn short_buffer() -> [usize; 32]
-    ensures { 32 ≡ length result }
-{
-    [0; 32]
-}
-
 // The same, with sizes and marks of its own. `dists`, `sums` and the rows of the table behind the k-th are left with anything.
 pub fn refresh(
     area: &mut [f64],
@@ -80,8 +73,8 @@ pub fn refresh(
 {
     let m = labels.len();
     if m <= 32 {
-        let mut sizes = short_buffer();
-        let mut marks = short_buffer();
+        let mut sizes = lists::buffer::<usize, 32>(0);
+        let mut marks = lists::buffer::<usize, 32>(0);
         refresh_rows(
             area,
             old,
@@ -94,8 +87,8 @@ pub fn refresh(
         );
         return;
     }
-    let mut sizes = lists::number_buffer();
-    let mut marks = lists::number_buffer();
+    let mut sizes = lists::buffer::<usize, 256>(0);
+    let mut marks = lists::buffer::<usize, 256>(0);
     refresh_rows(
         area,
         old,

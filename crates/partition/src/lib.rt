@@ -35,7 +35,7 @@ pub fn groups_of(labels: &[usize], order: &mut [usize], sizes: &mut [usize]) -> 
     ensures sizes_after { sizes.new ≡ sizes_of (length labels.now) (groups_of (numbers labels.now) (length labels.now) (length labels.now)) }
 {
     let m = labels.len();
-    lists::fill_numbers(sizes, 0);
+    sizes.fill(0);
     let mut at = 0;
     let mut count = 0;
     for l in 0..m {
@@ -67,7 +67,7 @@ pub fn labels_from_clusters(order: &[usize], sizes: &[usize], count: usize, labe
     requires { Sized (length labels.old) count order.now sizes.now }
     ensures { labels.new ≡ listed (label_of (cut count sizes.now order.now)) (length labels.old) }
 {
-    lists::fill_numbers(labels, 0);
+    labels.fill(0);
     let mut at = 0;
     for g in 0..count {
         let end = at + sizes[g];

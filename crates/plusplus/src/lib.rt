@@ -125,8 +125,8 @@ pub fn seed(
         draws::Draw::Value(d) => {
             let c = d as usize;
             centres[0] = c;
-            lists::copy(lists::row_of(squares, m, c), weights);
-            let mut sums = lists::row_buffer();
+            weights.copy_from_slice(lists::row_of(squares, m, c));
+            let mut sums = lists::buffer::<f64, 256>(0.0);
             more_centres(squares, draws, at + 1, centres, weights, &mut sums[..m])
         }
     }

@@ -108,13 +108,6 @@ fn more_from(
     taken
 }
 
-// Room for the draws of one centre.
-fn draw_buffer() -> [u64; 8]
-    ensures { length result ≡ 8 }
-{
-    [0; 8]
-}
-
 // As many centres as the list holds, among the items of the table, by the words of the generator, of which `taken` are taken. It answers how many words are
 // then taken. The lists hold anything before the call, and the weights after it.
 pub fn seed_on(
@@ -134,9 +127,9 @@ pub fn seed_on(
     let first = rng_std::random_range(rng, taken, m as u32);
     let c = first.value as usize;
     centres[0] = c;
-    lists::copy(lists::row_of(squares, m, c), weights);
-    let mut draws = draw_buffer();
-    let mut sums = lists::row_buffer();
+    weights.copy_from_slice(lists::row_of(squares, m, c));
+    let mut draws = lists::buffer::<u64, 8>(0);
+    let mut sums = lists::buffer::<f64, 256>(0.0);
     more_from(
         squares,
         rng,

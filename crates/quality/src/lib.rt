@@ -25,7 +25,7 @@ fn group_quality(members: &[usize], scores: &[f64]) -> f64
     ensures { result ≡ quality_of scores.now members.now }
 {
     let n = members.len();
-    let mut values = lists::row_buffer();
+    let mut values = lists::buffer::<f64, 256>(0.0);
     gather(members, scores, &mut values[..n]);
     tstat::tstat_value(&values[..n])
 }

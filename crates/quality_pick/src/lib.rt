@@ -38,7 +38,7 @@ pub fn pick(
         ++ drop (length (joined (picked (on_side qs.now limit below) (cut (length qs.now) sizes.now order.now)))) out.old }
     ensures out_sizes_after { out_sizes.new ≡ sizes_of (length out.old) (picked (on_side qs.now limit below) (cut (length qs.now) sizes.now order.now)) }
 {
-    lists::fill_numbers(out_sizes, 0);
+    out_sizes.fill(0);
     let count = qs.len();
     let mut at = 0;
     let mut items = 0;
@@ -50,7 +50,7 @@ pub fn pick(
             continue;
         }
         let to = items + sizes[g];
-        lists::copy_numbers(&order[from..at], &mut out[items..to]);
+        out[items..to].copy_from_slice(&order[from..at]);
         out_sizes[groups] = sizes[g];
         groups += 1;
         items = to;

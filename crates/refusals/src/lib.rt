@@ -80,7 +80,7 @@ pub fn wipe_doubles(m: usize, floats: &mut [f64])
     ensures { floats.new ≡ wiped m floats.old }
 {
     let work = 8 * (m * m) + 256 * m;
-    lists::fill(&mut floats[..work], 0.0);
+    floats[..work].fill(0.0);
 }
 
 // The first row that applies: `cells` cells of a book of n columns, of which m rows are read, other lists that fit or

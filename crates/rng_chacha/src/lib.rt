@@ -133,25 +133,12 @@ pub fn start(key: [u32; 8], number: u64, stream: u64) -> [u32; 16]
     ]
 }
 
-// Four states side by side, word j of state b at place b + 4 * j: the loops over b below become vector instructions.
-fn four_states() -> [u32; 64]
-    ensures { length result ≡ 64 }
-{
-    [0; 64]
-}
-
-fn one_state() -> [u32; 16]
-    ensures { length result ≡ 16 }
-{
-    [0; 16]
-}
-
 // State b. Inner form, as all that follow: s has 64 words.
 fn lane_of(s: &[u32], b: usize) -> [u32; 16]
     requires { (b < 4) × (length s.now ≡ 64) }
     ensures { result ≡ lane_of b s.now }
 {
-    let mut t = one_state();
+    let mut t = lists::buffer::<u32, 16>(0);
     for j in 0..16 {
         t[j] = s[b + 4 * j];
     }
@@ -227,7 +214,7 @@ pub fn four_blocks(key: [u32; 8], number: u64, stream: u64, doubles: usize, out:
     requires { (number + 3 < 2 ^ 64) × (length out.old ≡ 64) }
     ensures { out.new ≡ four_of (λ b. block_of doubles (start_of key (number + b) stream)) }
 {
-    let mut s = four_states();
+    let mut s = lists::buffer::<u32, 64>(0);
     start_lanes(&mut s, key, number, stream);
     round_lanes(&mut s, doubles);
     sum_lanes(&s, key, number, stream, out);

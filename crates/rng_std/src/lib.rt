@@ -16,13 +16,6 @@ pub struct Drawn {
     pub taken: u64,
 }
 
-// Room for a generator.
-pub fn rng_buffer() -> [u32; 72]
-    ensures { length result ≡ 72 }
-{
-    [0; 72]
-}
-
 // One step of the generator that makes the key: times a constant, plus another, carries dropped.
 fn advance(s: u64) -> u64
     ensures { result ≡ advanced s }

@@ -92,9 +92,9 @@ pub fn start_round(
     if lacks(draws, src.at, src.seeded, need) {
         return RoundStart::Stopped(Stop::Short(src.at));
     }
-    let mut order = lists::number_buffer();
-    let mut sizes = lists::number_buffer();
-    let mut scores = lists::row_buffer();
+    let mut order = lists::buffer::<usize, 256>(0);
+    let mut sizes = lists::buffer::<usize, 256>(0);
+    let mut scores = lists::buffer::<f64, 256>(0.0);
     start_with(
         book,
         n,

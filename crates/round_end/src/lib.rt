@@ -43,7 +43,7 @@ fn end_with(
     let third = from + m;
     let off = left * n;
     let end = off + 5 * (m * m);
-    lists::copy(&wf[..m], old_scores);
+    old_scores.copy_from_slice(&wf[..m]);
     let weak = improve_merge::weak_items(
         &wi[n..second],
         &wi[from..third],
@@ -106,11 +106,11 @@ pub fn end_round(
         n left result (length order.old) order.new sizes.new scores.new wf.old wf.new }
 {
     let m = order.len();
-    let mut old_scores = lists::row_buffer();
-    let mut items = lists::number_buffer();
-    let mut new_order = lists::number_buffer();
-    let mut new_sizes = lists::number_buffer();
-    let mut new_scores = lists::row_buffer();
+    let mut old_scores = lists::buffer::<f64, 256>(0.0);
+    let mut items = lists::buffer::<usize, 256>(0);
+    let mut new_order = lists::buffer::<usize, 256>(0);
+    let mut new_sizes = lists::buffer::<usize, 256>(0);
+    let mut new_scores = lists::buffer::<f64, 256>(0.0);
     end_with(
         book,
         n,

@@ -24,11 +24,11 @@ pub fn store_base(
 {
     let m = order.len();
     let end = n + m;
-    lists::copy_numbers(order, &mut wi[n..end]);
+    wi[n..end].copy_from_slice(order);
     let from = 2 * n;
     let last = from + m;
-    lists::copy_numbers(sizes, &mut wi[from..last]);
-    lists::copy(scores, &mut wf[..m]);
+    wi[from..last].copy_from_slice(sizes);
+    wf[..m].copy_from_slice(scores);
 }
 
 // The rows of the items, as rows of the book, at the front of the inner round's numbers; `rows` is a list to work in.
@@ -39,7 +39,7 @@ fn store_rows(n: usize, m: usize, items: &[usize], rows: &mut [usize], wi: &mut 
     row_numbers::translate(&wi[..m], items, rows);
     let from = 3 * n;
     let end = from + items.len();
-    lists::copy_numbers(rows, &mut wi[from..end]);
+    wi[from..end].copy_from_slice(rows);
 }
 
 // The weak items of the base, and their rows at the front of the inner round's numbers; `items` and `rows` are lists to work in.
@@ -78,8 +78,8 @@ pub fn find_weak(
     ensures { WeakFound n (length scores.now) (state_of count sizes.now order.now scores.now) result.groups result.items wi.old wi.new }
 {
     let m = scores.len();
-    let mut items = lists::number_buffer();
-    let mut rows = lists::number_buffer();
+    let mut items = lists::buffer::<usize, 256>(0);
+    let mut rows = lists::buffer::<usize, 256>(0);
     find_weak_with(
         n,
         count,
@@ -107,9 +107,9 @@ pub fn keep(
 {
     let m = order.len();
     let end = n + m;
-    lists::copy_numbers(&wi[n..end], order);
+    order.copy_from_slice(&wi[n..end]);
     let from = 2 * n;
     let last = from + m;
-    lists::copy_numbers(&wi[from..last], sizes);
-    lists::copy(&wf[..m], scores);
+    sizes.copy_from_slice(&wi[from..last]);
+    scores.copy_from_slice(&wf[..m]);
 }

@@ -14,8 +14,8 @@ fn score_across(across: &[f64], n: usize, labels: &[usize], scores: &mut [f64])
     requires n_value { (n ≡ length labels.now) × (length scores.old ≡ length labels.now) }
     ensures { scores.new ≡ scores_across across.now labels.now }
 {
-    let mut sums = lists::row_buffer();
-    let mut own = lists::row_buffer();
+    let mut sums = lists::buffer::<f64, 256>(0.0);
+    let mut own = lists::buffer::<f64, 256>(0.0);
     silhouette_scores::scores_by_label(across, labels, n, scores, &mut sums[..n], &mut own[..n]);
 }
 

@@ -32,12 +32,12 @@ pub fn scores_in(area: &[f64], m: usize, labels: &[usize], k: usize, scores: &mu
     ensures { scores.new ≡ scores_of (points_at area.now m) m (numbers labels.now) }
 {
     if m <= 32 {
-        let mut sums = lists::short_row();
-        let mut own = lists::short_row();
+        let mut sums = lists::buffer::<f64, 32>(0.0);
+        let mut own = lists::buffer::<f64, 32>(0.0);
         scores_with(area, m, labels, k, scores, &mut sums[..m], &mut own[..m]);
         return;
     }
-    let mut sums = lists::row_buffer();
-    let mut own = lists::row_buffer();
+    let mut sums = lists::buffer::<f64, 256>(0.0);
+    let mut own = lists::buffer::<f64, 256>(0.0);
     scores_with(area, m, labels, k, scores, &mut sums[..m], &mut own[..m]);
 }

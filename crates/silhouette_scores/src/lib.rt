@@ -65,7 +65,7 @@ fn add_members(across: &[f64], labels: &[usize], l: usize, sums: &mut [f64]) -> 
     ensures sums_after { sums.new ≡ listed (λ i. scoring.group_sum (distance across.now (length labels.now) i) (numbers labels.now) (length labels.now) i l) (length labels.now) }
     ensures value { result ≡ group_size (numbers labels.now) (length labels.now) l }
 {
-    lists::fill(sums, 0.0);
+    sums.fill(0.0);
     let m = labels.len();
     let mut count = 0;
     for j in 0..m {
@@ -157,7 +157,7 @@ pub fn scores_by_label(
     requires scores_len { (length scores.old ≡ length labels.now) × (length sums.old ≡ length labels.now) × (length own.old ≡ length labels.now) }
     ensures { scores.new ≡ scores_across across.now labels.now }
 {
-    lists::fill(scores, lists::infinity());
+    scores.fill(lists::infinity());
     for l in 0..k {
         add_group(across, labels, l, scores, sums, own);
     }

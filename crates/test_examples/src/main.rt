@@ -35,37 +35,12 @@ struct Case {
     next: usize,
 }
 
-// Each list comes from a function: a literal array would stand in every goal, cell by cell.
-fn buffer() -> [f64; 144]
-    ensures { result ≡ replicate 144 seven }
-{
-    [7.0; 144]
-}
-
-fn number_buffer() -> [usize; 144]
-    ensures { 144 ≡ length result }
-{
-    [0; 144]
-}
-
-fn working_list() -> [f64; 8192]
-    ensures { result ≡ replicate 8192 seven }
-{
-    [7.0; 8192]
-}
-
-fn many() -> [f64; 65537]
-    ensures { result ≡ replicate 65537 half }
-{
-    [0.5; 65537]
-}
-
 // n words from `at` on, as doubles and as numbers.
 fn doubles_at(text: &[u8], at: usize, n: usize) -> [f64; 144]
     requires { n ≤ 144 }
     ensures { (144 ≡ length result) × (take n result ≡ doubles_from text.now at n) }
 {
-    let mut xs = buffer();
+    let mut xs = lists::filled::<f64, 144>(7.0);
     test_words::doubles(text, at, &mut xs[..n]);
     xs
 }
@@ -74,7 +49,7 @@ fn numbers_at(text: &[u8], at: usize, n: usize) -> [usize; 144]
     requires { n ≤ 144 }
     ensures { (144 ≡ length result) × (take n result ≡ words_from text.now at n) }
 {
-    let mut xs = number_buffer();
+    let mut xs = lists::buffer::<usize, 144>(0);
     test_words::numbers(text, at, &mut xs[..n]);
     xs
 }
@@ -149,7 +124,7 @@ fn call_many(which: u64, n: usize) -> Squared
     if n > 65537 {
         return Squared::Refused(Answer::TooLarge);
     }
-    let values = many();
+    let values = lists::filled::<f64, 65537>(0.5);
     of_average(average(which, 0, &values[..n]))
 }
 
@@ -264,8 +239,8 @@ fn right_lent(text: &[u8], c: Case, a: &[f64], rows: &[usize]) -> bool
     requires { (c.out ≤ 144) × (c.floats ≤ 8192) × (c.expected ≤ 20296) }
     ensures { result ≡ right_leaf text.now c (list_of c a.now rows.now (replicate c.out seven) (replicate c.floats seven)) }
 {
-    let mut out = buffer();
-    let mut floats = working_list();
+    let mut out = lists::filled::<f64, 144>(7.0);
+    let mut floats = lists::filled::<f64, 8192>(7.0);
     let n_out = c.out;
     let n_floats = c.floats;
     right_leaf(text, c, a, rows, &mut out[..n_out], &mut floats[..n_floats])
@@ -321,7 +296,7 @@ fn run(text: &[u8]) -> Counts
 }
 
 fn main() {
-    let mut text = test_words::text_buffer();
+    let mut text = lists::buffer::<u8, 262144>(0);
     let n = io::read_full(0, &mut text);
     let counts = run(&text[..n]);
     test_counts::summary(counts, n, text.len());

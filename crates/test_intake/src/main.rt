@@ -24,19 +24,6 @@ struct Case {
     next: usize,
 }
 
-// Each list comes from a function: a literal array would stand in every goal, cell by cell.
-fn cell_buffer() -> [i64; 256]
-    ensures { 256 ≡ length result }
-{
-    [0; 256]
-}
-
-fn book_buffer() -> [i64; 66049]
-    ensures { 66049 ≡ length result }
-{
-    [0; 66049]
-}
-
 // The number that a word is in two's complement.
 fn signed_of(word: u64) -> i64
     ensures { result ≡ signed_of word }
@@ -112,7 +99,7 @@ fn right_case(text: &[u8], at: usize, c: Case) -> bool
     requires { (at ≤ 20000) × (c.cells ≤ 256) }
     ensures { result ≡ right_case text.now at c }
 {
-    let mut cells = cell_buffer();
+    let mut cells = lists::buffer::<i64, 256>(0);
     let n = c.cells;
     right_cells(text, at, c, &mut cells[..n])
 }
@@ -171,7 +158,7 @@ fn made_answer(n: usize) -> Intake
     requires { n ≤ 257 }
     ensures { refusal_of result ≡ intake_of (made_book n) n n }
 {
-    let mut cells = book_buffer();
+    let mut cells = lists::buffer::<i64, 66049>(0);
     let count = n * n;
     made_in(&mut cells[..count], n)
 }
@@ -186,7 +173,7 @@ fn print_made(n: usize, a: Intake) {
 }
 
 fn main() {
-    let mut text = test_words::text_buffer();
+    let mut text = lists::buffer::<u8, 262144>(0);
     let n = io::read_full(0, &mut text);
     let counts = run(&text[..n]);
     test_counts::summary(counts, n, text.len());

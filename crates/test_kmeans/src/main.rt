@@ -35,43 +35,12 @@ struct Case {
     next: usize,
 }
 
-// Each list comes from a function: a literal array would stand in every goal, cell by cell.
-fn point_buffer() -> [f64; 256]
-    ensures { 256 ≡ length result }
-{
-    [7.0; 256]
-}
-
-fn draw_buffer() -> [u64; 64]
-    ensures { 64 ≡ length result }
-{
-    [0; 64]
-}
-
-fn number_buffer() -> [usize; 64]
-    ensures { result ≡ replicate 64 999 }
-{
-    [999; 64]
-}
-
-fn working_doubles() -> [f64; 6400]
-    ensures { result ≡ replicate 6400 seven }
-{
-    [7.0; 6400]
-}
-
-fn working_numbers() -> [usize; 5400]
-    ensures { result ≡ replicate 5400 999 }
-{
-    [999; 5400]
-}
-
 // n words from `at` on, as doubles, as draws and as centres.
 fn points_at(text: &[u8], at: usize, n: usize) -> [f64; 256]
     requires { n ≤ 256 }
     ensures { (256 ≡ length result) × (take n result ≡ doubles_from text.now at n) }
 {
-    let mut xs = point_buffer();
+    let mut xs = lists::buffer::<f64, 256>(7.0);
     test_words::doubles(text, at, &mut xs[..n]);
     xs
 }
@@ -80,7 +49,7 @@ fn draws_at(text: &[u8], at: usize, n: usize) -> [u64; 64]
     requires { n ≤ 64 }
     ensures { (64 ≡ length result) × (take n result ≡ words_from text.now at n) }
 {
-    let mut xs = draw_buffer();
+    let mut xs = lists::buffer::<u64, 64>(0);
     test_words::draws(text, at, &mut xs[..n]);
     xs
 }
@@ -89,7 +58,7 @@ fn centres_at(text: &[u8], at: usize, n: usize) -> [usize; 64]
     requires { n ≤ 64 }
     ensures { (64 ≡ length result) × (take n result ≡ words_from text.now at n) }
 {
-    let mut xs = number_buffer();
+    let mut xs = lists::filled::<usize, 64>(999);
     test_words::numbers(text, at, &mut xs[..n]);
     xs
 }
@@ -219,9 +188,9 @@ fn right_list(text: &[u8], c: Case, points: &[f64], draws: &[u64], centres: &[us
     requires { (c.out ≤ 64) × (c.floats ≤ 6400) × (c.numbers ≤ 5400) × (c.expected ≤ 20328) }
     ensures { result ≡ right_lists text.now c points.now draws.now centres.now }
 {
-    let mut out = number_buffer();
-    let mut floats = working_doubles();
-    let mut numbers = working_numbers();
+    let mut out = lists::filled::<usize, 64>(999);
+    let mut floats = lists::filled::<f64, 6400>(7.0);
+    let mut numbers = lists::filled::<usize, 5400>(999);
     let n_out = c.out;
     let n_floats = c.floats;
     let n_numbers = c.numbers;
@@ -279,7 +248,7 @@ fn run(text: &[u8]) -> Counts
 }
 
 fn main() {
-    let mut text = test_words::text_buffer();
+    let mut text = lists::buffer::<u8, 262144>(0);
     let n = io::read_full(0, &mut text);
     let counts = run(&text[..n]);
     test_counts::summary(counts, n, text.len());

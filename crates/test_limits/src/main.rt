@@ -6,49 +6,18 @@ ghost use Rattle.std.specs.Prelude.{◌≤◌, ◌≡◌, length};
 
 use onc_answers::Onc;
 
-// Lists for 257 names. Each comes from a function that promises its length alone: a literal array would stand in every goal, cell by cell.
-fn cell_list() -> [f64; 66049]
-    ensures { 66049 ≡ length result }
-{
-    [1.0; 66049]
-}
-
-fn name_list() -> [usize; 257]
-    ensures { 257 ≡ length result }
-{
-    [0; 257]
-}
-
-fn score_list() -> [f64; 257]
-    ensures { 257 ≡ length result }
-{
-    [0.0; 257]
-}
-
-fn working_doubles() -> [f64; 594184]
-    ensures { 594184 ≡ length result }
-{
-    [0.0; 594184]
-}
-
-fn working_numbers() -> [usize; 82240]
-    ensures { 82240 ≡ length result }
-{
-    [0; 82240]
-}
-
 // The answer for a book of n names.
 fn asked(n: usize) -> Onc
     requires { n ≤ 257 }
 {
-    let book = cell_list();
+    let book = lists::buffer::<f64, 66049>(1.0);
     let draws = [0u64; 0];
-    let mut order = name_list();
-    let mut sizes = name_list();
-    let mut scores = score_list();
-    let mut ordered = cell_list();
-    let mut floats = working_doubles();
-    let mut numbers = working_numbers();
+    let mut order = lists::buffer::<usize, 257>(0);
+    let mut sizes = lists::buffer::<usize, 257>(0);
+    let mut scores = lists::buffer::<f64, 257>(0.0);
+    let mut ordered = lists::buffer::<f64, 66049>(1.0);
+    let mut floats = lists::buffer::<f64, 594184>(0.0);
+    let mut numbers = lists::buffer::<usize, 82240>(0);
     let size = n * n;
     onc::get_onc_clusters_with_draws(
         &book[..size],

@@ -17,49 +17,12 @@ use onc_answers::Onc;
 use test_counts::Counts;
 use test_run_cases::Case;
 
-// Each list comes from a function: a literal array would stand in every goal, cell by cell.
-fn cell_buffer() -> [f64; 144]
-    ensures { 144 ≡ length result }
-{
-    [7.0; 144]
-}
-
-fn number_buffer() -> [usize; 16]
-    ensures { result ≡ replicate 16 999 }
-{
-    [999; 16]
-}
-
-fn score_buffer() -> [f64; 16]
-    ensures { result ≡ replicate 16 seven }
-{
-    [7.0; 16]
-}
-
-fn matrix_buffer() -> [f64; 256]
-    ensures { result ≡ replicate 256 seven }
-{
-    [7.0; 256]
-}
-
-fn working_doubles() -> [f64; 4400]
-    ensures { result ≡ replicate 4400 seven }
-{
-    [7.0; 4400]
-}
-
-fn working_numbers() -> [usize; 4000]
-    ensures { result ≡ replicate 4000 999 }
-{
-    [999; 4000]
-}
-
 // n words from `at` on, as cells.
 fn cells_at(text: &[u8], at: usize, n: usize) -> [f64; 144]
     requires { n ≤ 144 }
     ensures { (144 ≡ length result) × (take n result ≡ doubles_from text.now at n) }
 {
-    let mut xs = cell_buffer();
+    let mut xs = lists::buffer::<f64, 144>(7.0);
     test_words::doubles(text, at, &mut xs[..n]);
     xs
 }
@@ -192,8 +155,8 @@ fn right_worked(
       numbers = replicate c.numbers 999;
     })) }
 {
-    let mut floats = working_doubles();
-    let mut numbers = working_numbers();
+    let mut floats = lists::filled::<f64, 4400>(7.0);
+    let mut numbers = lists::filled::<usize, 4000>(999);
     let n_floats = c.floats;
     let n_numbers = c.numbers;
     right_run(
@@ -215,10 +178,10 @@ fn right_lists(text: &[u8], c: Case, cells: &[f64], seed: u64) -> bool
     requires { (c.expected ≤ 94725) × (c.order ≤ 16) × (c.sizes ≤ 16) × (c.scores ≤ 16) × (c.floats ≤ 4400) × (c.numbers ≤ 4000) × (c.ordered ≤ 256) }
     ensures { result ≡ right_lists text.now c cells.now seed }
 {
-    let mut order = number_buffer();
-    let mut sizes = number_buffer();
-    let mut scores = score_buffer();
-    let mut ordered = matrix_buffer();
+    let mut order = lists::filled::<usize, 16>(999);
+    let mut sizes = lists::filled::<usize, 16>(999);
+    let mut scores = lists::filled::<f64, 16>(7.0);
+    let mut ordered = lists::filled::<f64, 256>(7.0);
     let n_order = c.order;
     let n_sizes = c.sizes;
     let n_scores = c.scores;
@@ -270,7 +233,7 @@ fn run(text: &[u8]) -> Counts
 }
 
 fn main() {
-    let mut text = test_words::text_buffer();
+    let mut text = lists::buffer::<u8, 262144>(0);
     let n = io::read_full(0, &mut text);
     let counts = run(&text[..n]);
     test_counts::summary(counts, n, text.len());

@@ -26,16 +26,9 @@ fn print_block(key: [u32; 8], number: u64, stream: u64, doubles: usize) {
     print_words(&words, 0);
 }
 
-// Room for four blocks.
-fn four_buffer() -> [u32; 64]
-    ensures { length result ≡ 64 }
-{
-    [0; 64]
-}
-
 // The words of the first two blocks of four, with 12 rounds.
 fn print_two(key: [u32; 8], stream: u64) {
-    let mut words = four_buffer();
+    let mut words = lists::buffer::<u32, 64>(0);
     rng_chacha::four_blocks(key, 0, stream, 6, &mut words);
     print_words(&words, 0);
     print_words(&words, 16);
@@ -66,7 +59,7 @@ fn print_draws(seed: u64, n: u32, times: u64)
     requires { (0 < n) × (times ≤ 1000) }
 {
     print_draw(seed);
-    let mut rng = rng_std::rng_buffer();
+    let mut rng = lists::buffer::<u32, 72>(0);
     rng_std::seed_from_u64(seed, 0, &mut rng);
     print_pairs(&mut rng, n, times);
 }

@@ -12,13 +12,6 @@ ghost use Rattle.test_texts.specs.Texts.{first_of, case_at, same_bytes, right_te
 
 use test_counts::Counts;
 
-// A file's bytes, by their count alone: a literal array would stand in every goal, cell by cell.
-fn text_buffer() -> [u8; 524288]
-    ensures { 524288 ≡ length result }
-{
-    [0; 524288]
-}
-
 // Where the text of a case starts, its length, and the length of what must be printed, which stands behind it.
 #[derive(Clone, Copy)]
 struct Case {
@@ -123,7 +116,7 @@ fn run(cases: &[u8]) -> Counts
 }
 
 fn main() {
-    let mut cases = text_buffer();
+    let mut cases = lists::buffer::<u8, 524288>(0);
     let n = io::read_full(0, &mut cases);
     let counts = run(&cases[..n]);
     test_counts::summary(counts, n, cases.len());

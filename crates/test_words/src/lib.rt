@@ -4,13 +4,6 @@
 ghost use Rattle.std.specs.Prelude.{◌≤◌, ◌≡◌, length};
 ghost use Rattle.test_words.specs.Words.{hex_digit_of, with_digit, value_of, word_at, word_from, size_from, doubles_from, words_from};
 
-// A text's bytes, by their count alone: a literal array would stand in every goal, cell by cell.
-pub fn text_buffer() -> [u8; 262144]
-    ensures { 262144 ≡ length result }
-{
-    [0; 262144]
-}
-
 // The value of a digit, 0 to 9 or a to f; of any other byte some value below 16.
 fn hex_digit(b: u8) -> u64
     ensures { (result ≡ hex_digit_of b) × (result ≤ 15) }

@@ -10,20 +10,13 @@ ghost use Rattle.text_answer.specs.Answer.{grouped_text, refusal_fits, written_o
 
 use text_written::Written;
 
-// A list for 12 names, of which only the length is promised. It comes from a function: a literal array would stand in every goal, cell by cell.
-pub fn name_list() -> [usize; 12]
-    ensures { 12 ≡ length result }
-{
-    [0; 12]
-}
-
 // The label of each name, in front of a list for 12 names, from the order and the sizes of the groups.
 fn labels_of(order: &[usize], sizes: &[usize], groups: usize) -> [usize; 12]
     requires { (length order.now ≤ 12) × Sized (length order.now) groups order.now sizes.now }
     ensures { (12 ≡ length result) × (take (length order.now) result ≡ listed (label_of (cut groups sizes.now order.now)) (length order.now)) }
 {
     let n = order.len();
-    let mut labels = name_list();
+    let mut labels = lists::buffer::<usize, 12>(0);
     partition::labels_from_clusters(order, sizes, groups, &mut labels[..n]);
     labels
 }

@@ -10,37 +10,6 @@ ghost use Rattle.text_program.specs.Program.{book_text, program_of};
 use text_request::Request;
 use text_written::Written;
 
-// Lists for 12 names. Each comes from a function: a literal array would stand in every goal, cell by cell.
-fn cell_list() -> [f64; 144]
-    ensures { result ≡ replicate 144 zero64 }
-{
-    [0.0; 144]
-}
-
-fn draw_list() -> [u64; 1024]
-    ensures { result ≡ replicate 1024 0 }
-{
-    [0; 1024]
-}
-
-fn score_list() -> [f64; 12]
-    ensures { 12 ≡ length result }
-{
-    [0.0; 12]
-}
-
-fn working_doubles() -> [f64; 4224]
-    ensures { 4224 ≡ length result }
-{
-    [0.0; 4224]
-}
-
-fn working_numbers() -> [usize; 3840]
-    ensures { 3840 ≡ length result }
-{
-    [0; 3840]
-}
-
 // Groups a book of n names with the outputs and the lists to work in, and writes the answer.
 fn group_with(
     book: &[f64],
@@ -83,12 +52,12 @@ fn group(book: &[f64], n: usize, repeats: usize, draws: &[u64], out: &mut [u8]) 
     ensures { record { refused = refusal_of result; count = bytes_of result; out = out.new }
         ≡ written_of (refusal_fits out.old) (book_text n repeats book.now draws.now) out.old }
 {
-    let mut order = text_groups::name_list();
-    let mut sizes = text_groups::name_list();
-    let mut scores = score_list();
-    let mut ordered = cell_list();
-    let mut floats = working_doubles();
-    let mut numbers = working_numbers();
+    let mut order = lists::buffer::<usize, 12>(0);
+    let mut sizes = lists::buffer::<usize, 12>(0);
+    let mut scores = lists::buffer::<f64, 12>(0.0);
+    let mut ordered = lists::filled::<f64, 144>(0.0);
+    let mut floats = lists::buffer::<f64, 4224>(0.0);
+    let mut numbers = lists::buffer::<usize, 3840>(0);
     let size = n * n;
     group_with(
         book,
@@ -111,8 +80,8 @@ pub fn answer_to(text: &[u8], out: &mut [u8]) -> Written
     ensures { record { refused = refusal_of result; count = bytes_of result; out = out.new }
         ≡ written_of (refusal_fits out.old) (program_of text.now) out.old }
 {
-    let mut cells = cell_list();
-    let mut draws = draw_list();
+    let mut cells = lists::filled::<f64, 144>(0.0);
+    let mut draws = lists::filled::<u64, 1024>(0);
     match text_request::read_request(text, &mut cells, &mut draws) {
         Request::Fault => text_answer::write_refusal(11, 0, out),
         // never: the two lists have room for every text of the layout
