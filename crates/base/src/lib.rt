@@ -9,15 +9,14 @@ ghost use Rattle.candidates.specs.Steps.{Enough, SearchedBy};
 ghost use Rattle.base.specs.Base.{BasedBy};
 
 use candidates::Searched;
-use choice::Kept;
 use draws::Stop;
 use plusplus_seeded::Source;
 
-// How many groups, and the source behind the draws; or what ends the run.
+// How many groups, and the source behind the draws.
 #[derive(Drop)]
-pub enum Based {
-    Done(usize, Source),
-    Stopped(Stop),
+pub struct Based {
+    pub groups: usize,
+    pub source: Source,
 }
 
 // The best candidate of the book that the rows make.
@@ -31,7 +30,7 @@ fn best_of_book(
     area: &mut [f64],
     labels: &mut [usize],
     scores: &mut [f64],
-) -> Searched
+) -> Result<Searched, Stop>
     requires { Readable book.now n rows.now × Enough (length rows.now) repeat draws.now src × (length area.old ≡ 5 * (length rows.now * length rows.now))
         × (length labels.old ≡ length rows.now) × (length scores.old ≡ length rows.now) }
     ensures { SearchedBy (best_of (dist_at book.now n rows.now) (length rows.now) repeat src.at (repeats_given (dist_at book.now n rows.now) (length rows.now) repeat src draws.now))
@@ -56,22 +55,21 @@ fn base_of_book(
     order: &mut [usize],
     sizes: &mut [usize],
     scores: &mut [f64],
-) -> Based
+) -> Result<Based, Stop>
     requires { Readable book.now n rows.now × Enough (length rows.now) repeat draws.now src × (length area.old ≡ 5 * (length rows.now * length rows.now))
         × (length labels.old ≡ length rows.now) × (length order.old ≡ length rows.now) × (length sizes.old ≡ length rows.now) × (length scores.old ≡ length rows.now) }
     ensures { BasedBy (length rows.now) (best_of (dist_at book.now n rows.now) (length rows.now) repeat src.at (repeats_given (dist_at book.now n rows.now) (length rows.now) repeat src draws.now))
         (repeats_moved (dist_at book.now n rows.now) (length rows.now) repeat src) result order.new sizes.new scores.new }
 {
-    match best_of_book(book, n, rows, repeat, draws, src, area, labels, scores) {
-        Searched::Stopped(s) => Based::Stopped(s),
-        Searched::Done(next, kept) => match kept {
-            // never so: each candidate has a t-stat above -infinity (crates/certain_runs)
-            Kept::Nothing => Based::Stopped(Stop::ClusteringFailed),
-            Kept::Candidate(_stat, _mean) => {
-                let groups = partition::groups_of(labels, order, sizes);
-                Based::Done(groups, next)
-            }
-        },
+    let found = best_of_book(book, n, rows, repeat, draws, src, area, labels, scores)?;
+    let source = found.source;
+    match found.kept {
+        // never so: each candidate has a t-stat above -infinity (crates/certain_runs)
+        None => Err(Stop::ClusteringFailed),
+        Some(_best) => {
+            let groups = partition::groups_of(labels, order, sizes);
+            Ok(Based { groups, source })
+        }
     }
 }
 
@@ -88,7 +86,7 @@ pub fn cluster_kmeans_base(
     order: &mut [usize],
     sizes: &mut [usize],
     scores: &mut [f64],
-) -> Based
+) -> Result<Based, Stop>
     requires { Readable book.now n rows.now × Enough (length rows.now) repeat draws.now src × (length area.old ≡ 5 * (length rows.now * length rows.now))
         × (length order.old ≡ length rows.now) × (length sizes.old ≡ length rows.now) × (length scores.old ≡ length rows.now) }
     ensures { BasedBy (length rows.now) (best_of (dist_at book.now n rows.now) (length rows.now) repeat src.at (repeats_given (dist_at book.now n rows.now) (length rows.now) repeat src draws.now))

@@ -1,28 +1,26 @@
 -- What the steps of the search ask and leave. Definitions only.
-use Rattle.std.specs.Prelude.{ℕ, ◌*◌, ◌≤◌, ◌≡◌, List, length, Float}
+use Rattle.std.specs.Prelude.{ℕ, ◌*◌, ◌≤◌, ◌≡◌, List, Option, Some, None, Result, Ok, Err, length, Float}
 use Rattle.draws.specs.Counts.{count_of}
 use Rattle.draws.specs.Draws.{Drawn, drawn, refused}
+use Rattle.draws.specs.declared.Stop.{Stop}
 use Rattle.draws.specs.declared.Stop.TheVariants.{DrawOutOfRange}
 use Rattle.plusplus_seeded.specs.declared.Source.{Source}
 use Rattle.plusplus_seeded.specs.Sources.{RngOf, Supplies}
 use Rattle.choice.specs.declared.Kept.{Kept}
-use Rattle.choice.specs.declared.Kept.TheVariants.{Nothing, Candidate}
 use Rattle.candidates.specs.declared.Searched.{Searched}
-use Rattle.candidates.specs.declared.Searched.TheVariants.{Done, Stopped}
 use Rattle.candidates.specs.declared.Tried.{Tried}
-use Rattle.candidates.specs.declared.Tried.TheVariants.{Made, Refused}
 use Rattle.candidates.specs.Candidates.{Best, nothing, found}
 use Rattle.candidates.specs.Candidates as candidates
 
 -- the t-stat and the mean of the best
-abbrev pub kept_of : Best → Kept
-kept_of nothing = Nothing
-kept_of (found c) = Candidate c.stat c.mean
+abbrev pub kept_of : Best → Option Kept
+kept_of nothing = None
+kept_of (found c) = Some (record { stat = c.stat; mean = c.mean })
 
 -- the best, by what is kept and by the lists
-abbrev pub best_from : Kept → List ℕ → List Float → Best
-best_from Nothing labels scores = nothing
-best_from (Candidate stat mean) labels scores = found (record { labels = labels; scores = scores; stat = stat; mean = mean })
+abbrev pub best_from : Option Kept → List ℕ → List Float → Best
+best_from None labels scores = nothing
+best_from (Some k) labels scores = found (record { labels = labels; scores = scores; stat = k.stat; mean = k.mean })
 
 -- the lists have the labels and the scores of the best, where there is one
 abbrev pub Holds : Best → List ℕ → List Float → Type 0
@@ -30,36 +28,36 @@ Holds nothing labels scores = Unit
 Holds (found c) labels scores = (labels ≡ c.labels) × (scores ≡ c.scores)
 
 -- the answer on one candidate: the source behind its draws, which is `next`, its t-stat and its mean; or the place of a draw out of range
-abbrev pub tried_of : Source → Drawn candidates.Candidate → Tried
-tried_of next (drawn c rest) = Made next c.stat c.mean
-tried_of next (refused p) = Refused (DrawOutOfRange p)
+abbrev pub tried_of : Source → Drawn candidates.Candidate → Result Tried Stop
+tried_of next (drawn c rest) = Ok (record { source = next; stat = c.stat; mean = c.mean })
+tried_of next (refused p) = Err (DrawOutOfRange p)
 
 -- the lists have its labels and its scores
 abbrev pub Written : Drawn candidates.Candidate → List ℕ → List Float → Type 0
 Written (drawn c rest) labels scores = (labels ≡ c.labels) × (scores ≡ c.scores)
 Written (refused p) labels scores = Unit
 
-pub record TriedBy (D : Drawn candidates.Candidate) (next : Source) (r : Tried) (labels' : List ℕ) (scores' : List Float) : Type 0 where
+pub record TriedBy (D : Drawn candidates.Candidate) (next : Source) (r : Result Tried Stop) (labels' : List ℕ) (scores' : List Float) : Type 0 where
   pub answer_is : r ≡ tried_of next D
   pub written : Written D labels' scores'
 
 -- the answer: the source behind the draws, which is `next`, and what is kept; or the place of a draw out of range
-abbrev pub searched_of : Source → Drawn Best → Searched
-searched_of next (drawn b rest) = Done next (kept_of b)
-searched_of next (refused p) = Stopped (DrawOutOfRange p)
+abbrev pub searched_of : Source → Drawn Best → Result Searched Stop
+searched_of next (drawn b rest) = Ok (record { source = next; kept = kept_of b })
+searched_of next (refused p) = Err (DrawOutOfRange p)
 
 abbrev pub Leaves : Drawn Best → List ℕ → List Float → Type 0
 Leaves (drawn b rest) labels scores = Holds b labels scores
 Leaves (refused p) labels scores = Unit
 
-pub record SearchedBy (D : Drawn Best) (next : Source) (r : Searched) (labels' : List ℕ) (scores' : List Float) : Type 0 where
+pub record SearchedBy (D : Drawn Best) (next : Source) (r : Result Searched Stop) (labels' : List ℕ) (scores' : List Float) : Type 0 where
   pub answer_is : r ≡ searched_of next D
   pub leaves : Leaves D labels' scores'
 
 -- the generator of the source behind the draws
-abbrev pub RngBehind : Searched → List ℕ → Type 0
-RngBehind (Done next kept) rng = RngOf next rng
-RngBehind (Stopped s) rng = Unit
+abbrev pub RngBehind : Result Searched Stop → List ℕ → Type 0
+RngBehind (Ok f) rng = RngOf f.source rng
+RngBehind (Err s) rng = Unit
 
 -- the labels and the scores of the best, and those of a candidate, for m items
 pub record Lists (m : ℕ) (labels : List ℕ) (scores : List Float) (newLabels : List ℕ) (newScores : List Float) : Type 0 where

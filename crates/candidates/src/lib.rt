@@ -13,21 +13,21 @@ ghost use Rattle.candidates.specs.Steps.{TriedBy, SearchedBy, RngBehind, Enough,
 
 use choice::Kept;
 use draws::Stop;
-use kmeans::Labelled;
 use plusplus_seeded::Source;
 
-// The source behind the draws and what is kept; or what ends the run.
+// The source behind the draws, and the best candidate so far, if there is one.
 #[derive(Drop)]
-pub enum Searched {
-    Done(Source, Kept),
-    Stopped(Stop),
+pub struct Searched {
+    pub source: Source,
+    pub kept: Option<Kept>,
 }
 
-// The source behind the draws, the t-stat and the plain mean of a candidate; or what ends the run.
+// The source behind the draws, the t-stat and the plain mean of a candidate.
 #[derive(Drop)]
-enum Tried {
-    Made(Source, f64, f64),
-    Refused(Stop),
+struct Tried {
+    source: Source,
+    stat: f64,
+    mean: f64,
 }
 
 // The candidate with k groups, by the draws of the source: its labels and its scores in the lent lists. The fifth area holds
@@ -41,21 +41,21 @@ fn candidate(
     labels: &mut [usize],
     scores: &mut [f64],
     rng: &mut [u32],
-) -> Tried
+) -> Result<Tried, Stop>
     requires { Prepared area.old m × MayCluster m k draws.now src × (length labels.old ≡ m) × (length scores.old ≡ m) × RngOf src rng.old }
     ensures tried_by { TriedBy (candidate_from (points_at area.old m) m k src.at (seed_given (points_at area.old m) m k src draws.now)) (seed_moved (points_at area.old m) m k src) result labels.new scores.new }
     ensures area_unchanged { take (4 * (m * m)) area.new ≡ take (4 * (m * m)) area.old }
     ensures rng_of { RngOf (seed_moved (points_at area.old m) m k src) rng.new }
 {
-    match kmeans::labels_by(area, m, k, draws, src, labels, rng) {
-        Labelled::Stopped(s) => Tried::Refused(s),
-        Labelled::Done(next, _ended) => {
-            silhouette_areas::scores_in(area, m, labels, k, scores);
-            let stat = tstat::tstat_value(scores);
-            let mean = tstat::mean_of_value(scores);
-            Tried::Made(next, stat, mean)
-        }
-    }
+    let next = kmeans::labels_by(area, m, k, draws, src, labels, rng)?;
+    silhouette_areas::scores_in(area, m, labels, k, scores);
+    let stat = tstat::tstat_value(scores);
+    let mean = tstat::mean_of_value(scores);
+    Ok(Tried {
+        source: next.source,
+        stat,
+        mean,
+    })
 }
 
 // The candidate with k groups against what is kept: where it replaces that, its labels and scores are copied to `labels` and `scores`.
@@ -65,30 +65,32 @@ fn try_k(
     k: usize,
     draws: &[u64],
     src: Source,
-    kept: Kept,
+    kept: Option<Kept>,
     labels: &mut [usize],
     scores: &mut [f64],
     new_labels: &mut [usize],
     new_scores: &mut [f64],
     rng: &mut [u32],
-) -> Searched
+) -> Result<Searched, Stop>
     requires { Prepared area.old m × MayCluster m k draws.now src × Lists m labels.old scores.old new_labels.old new_scores.old × RngOf src rng.old }
     ensures searched_by { SearchedBy (tries_from (points_at area.old m) m k 1 (best_from kept labels.old scores.old) src.at (seed_given (points_at area.old m) m k src draws.now))
         (seed_moved (points_at area.old m) m k src) result labels.new scores.new }
     ensures area_unchanged { take (4 * (m * m)) area.new ≡ take (4 * (m * m)) area.old }
     ensures rng_of { RngOf (seed_moved (points_at area.old m) m k src) rng.new }
 {
-    match candidate(area, m, k, draws, src, new_labels, new_scores, rng) {
-        Tried::Refused(s) => Searched::Stopped(s),
-        Tried::Made(next, stat, mean) => {
-            if !choice::replaces(stat, mean, kept) {
-                return Searched::Done(next, kept);
-            }
-            labels.copy_from_slice(new_labels);
-            scores.copy_from_slice(new_scores);
-            Searched::Done(next, Kept::Candidate(stat, mean))
-        }
+    let tried = candidate(area, m, k, draws, src, new_labels, new_scores, rng)?;
+    let stat = tried.stat;
+    let mean = tried.mean;
+    let source = tried.source;
+    if !choice::replaces(stat, mean, kept) {
+        return Ok(Searched { source, kept });
     }
+    labels.copy_from_slice(new_labels);
+    scores.copy_from_slice(new_scores);
+    Ok(Searched {
+        source,
+        kept: Some(Kept { stat, mean }),
+    })
 }
 
 // One repeat: each number of groups, from 2 on.
@@ -97,13 +99,13 @@ fn each_k(
     m: usize,
     draws: &[u64],
     from: Source,
-    kept: Kept,
+    kept: Option<Kept>,
     labels: &mut [usize],
     scores: &mut [f64],
     new_labels: &mut [usize],
     new_scores: &mut [f64],
     rng: &mut [u32],
-) -> Searched
+) -> Result<Searched, Stop>
     requires { Prepared area.old m × (2 ≤ m) × Supplies from draws.now (count_of m) × Lists m labels.old scores.old new_labels.old new_scores.old × RngOf from rng.old }
     ensures searched_by { SearchedBy (tries_from (points_at area.old m) m 2 (tries m) (best_from kept labels.old scores.old) from.at (tries_given (points_at area.old m) m 2 (tries m) from draws.now))
         (repeat_moved (points_at area.old m) m from) result labels.new scores.new }
@@ -114,19 +116,16 @@ fn each_k(
     let mut here = from;
     let mut best = kept;
     for k in 2..end {
-        match try_k(
+        let found = try_k(
             area, m, k, draws, here, best, labels, scores, new_labels, new_scores, rng,
-        ) {
-            Searched::Stopped(s) => {
-                return Searched::Stopped(s);
-            }
-            Searched::Done(next, b) => {
-                here = next;
-                best = b;
-            }
-        }
+        )?;
+        here = found.source;
+        best = found.kept;
     }
-    Searched::Done(here, best)
+    Ok(Searched {
+        source: here,
+        kept: best,
+    })
 }
 
 // All repeats, one after the other.
@@ -141,26 +140,23 @@ fn each_repeat(
     new_labels: &mut [usize],
     new_scores: &mut [f64],
     rng: &mut [u32],
-) -> Searched
+) -> Result<Searched, Stop>
     requires { Prepared area.old m × Enough m repeat draws.now from × Lists m labels.old scores.old new_labels.old new_scores.old × RngOf from rng.old }
     ensures { SearchedBy (best_of (points_at area.old m) m repeat from.at (repeats_given (points_at area.old m) m repeat from draws.now)) (repeats_moved (points_at area.old m) m repeat from) result labels.new scores.new }
 {
     let mut here = from;
-    let mut best = Kept::Nothing;
+    let mut best: Option<Kept> = None;
     for t in 0..repeat {
-        match each_k(
+        let found = each_k(
             area, m, draws, here, best, labels, scores, new_labels, new_scores, rng,
-        ) {
-            Searched::Stopped(s) => {
-                return Searched::Stopped(s);
-            }
-            Searched::Done(next, b) => {
-                here = next;
-                best = b;
-            }
-        }
+        )?;
+        here = found.source;
+        best = found.kept;
     }
-    Searched::Done(here, best)
+    Ok(Searched {
+        source: here,
+        kept: best,
+    })
 }
 
 // The best candidate of all repeats, by the draws of the source: its labels and its scores in the lent lists, where there is one.
@@ -173,7 +169,7 @@ pub fn best_candidate(
     src: Source,
     labels: &mut [usize],
     scores: &mut [f64],
-) -> Searched
+) -> Result<Searched, Stop>
     requires { Prepared area.old m × Enough m repeat draws.now src × (length labels.old ≡ m) × (length scores.old ≡ m) }
     ensures { SearchedBy (best_of (points_at area.old m) m repeat src.at (repeats_given (points_at area.old m) m repeat src draws.now)) (repeats_moved (points_at area.old m) m repeat src) result labels.new scores.new }
 {

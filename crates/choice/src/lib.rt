@@ -5,25 +5,25 @@ ghost use Rattle.std.specs.Prelude.{◌≡◌, ◌<◌, length};
 ghost use Rattle.choice.specs.Choice.{chosen};
 ghost use Rattle.choice.specs.Replaces.{replaces_kept};
 
-// The t-stat and the plain mean of the best candidate so far, if there is one. Its labels and scores stand in lent lists.
+// The t-stat and the plain mean of the best candidate so far. Its labels and scores stand in lent lists.
 #[derive(Clone, Copy)]
-pub enum Kept {
-    Nothing,
-    Candidate(f64, f64),
+pub struct Kept {
+    pub stat: f64,
+    pub mean: f64,
 }
 
-// Whether a candidate with this t-stat and this mean replaces what is kept.
-pub fn replaces(stat: f64, mean: f64, kept: Kept) -> bool
+// Whether a candidate with this t-stat and this mean replaces what is kept, if there is anything.
+pub fn replaces(stat: f64, mean: f64, kept: Option<Kept>) -> bool
     ensures { result ≡ replaces_kept stat mean kept }
 {
     match kept {
-        Kept::Nothing => -lists::infinity() < stat,
-        Kept::Candidate(best, best_mean) => {
-            if best < stat {
+        None => -lists::infinity() < stat,
+        Some(best) => {
+            if best.stat < stat {
                 return true;
             }
-            if stat == best {
-                return best_mean < mean;
+            if stat == best.stat {
+                return best.mean < mean;
             }
             false
         }

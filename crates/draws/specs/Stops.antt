@@ -1,9 +1,7 @@
 -- What can end a run, by the table of refusals, and what taking one draw answers. Definitions only.
-use Rattle.std.specs.Prelude.{ℕ}
+use Rattle.std.specs.Prelude.{ℕ, Result, Ok, Err}
 use Rattle.draws.specs.declared.Stop.{Stop}
 use Rattle.draws.specs.declared.Stop.TheVariants.{Rounds, Short, DrawOutOfRange, ClusteringFailed}
-use Rattle.draws.specs.declared.Draw.{Draw}
-use Rattle.draws.specs.declared.Draw.TheVariants.{Value, Stopped}
 use Rattle.draws.specs.Draws.{Drawn, drawn, refused}
 
 -- the table's number, and its place: for 7 the draws read so far, 0 where the table names none. 3 is never returned: onc/specs/Certain.antt
@@ -20,6 +18,6 @@ stop_place (DrawOutOfRange p) = p
 stop_place ClusteringFailed = 0
 
 -- the answer of one draw that was taken
-abbrev pub draw_of : Drawn ℕ → Draw
-draw_of (drawn d rest) = Value d
-draw_of (refused p) = Stopped (DrawOutOfRange p)
+abbrev pub draw_of : Drawn ℕ → Result ℕ Stop
+draw_of (drawn d rest) = Ok d
+draw_of (refused p) = Err (DrawOutOfRange p)

@@ -17,13 +17,6 @@ pub enum Stop {
     ClusteringFailed,
 }
 
-// A draw that was taken, or what ends the run.
-#[derive(Drop)]
-pub enum Draw {
-    Value(u64),
-    Stopped(Stop),
-}
-
 // The table's number.
 pub fn stop_number(s: Stop) -> usize
     ensures { result ≡ stop_number s }
@@ -120,16 +113,16 @@ pub fn draws_for(m: usize) -> u64
     (most - 1 + two + more) as u64
 }
 
-// The draw at place `at`, which must be below the limit. Inner form: the list has one there.
-pub fn draw_below(draws: &[u64], at: usize, limit: u64) -> Draw
+// The draw at place `at`, which must be below the limit, or what ends the run. Inner form: the list has one there.
+pub fn draw_below(draws: &[u64], at: usize, limit: u64) -> Result<u64, Stop>
     requires { at < length draws.now }
     ensures { result ≡ draw_of (one_draw limit at (drop at draws.now)) }
 {
     let d = draws[at];
     if limit <= d {
-        return Draw::Stopped(Stop::DrawOutOfRange(at));
+        return Err(Stop::DrawOutOfRange(at));
     }
-    Draw::Value(d)
+    Ok(d)
 }
 
 // A draw below 2^53 as a share: itself over 2^53.

@@ -1,28 +1,27 @@
 -- What the steps of k-means answer and leave. Definitions only.
-use Rattle.std.specs.Prelude.{ℕ, ◌≤◌, ◌≡◌, List, Float}
+use Rattle.std.specs.Prelude.{ℕ, ◌≤◌, ◌≡◌, List, Result, Ok, Err, Float}
 use Rattle.distance_columns.specs.Pair.{squared_at}
 use Rattle.draws.specs.Counts.{seeding_of}
 use Rattle.plusplus_seeded.specs.declared.Source.{Source}
 use Rattle.plusplus_seeded.specs.Sources.{given, moved_on, Supplies, seed_draws, seed_next}
 use Rattle.draws.specs.Draws.{Drawn, drawn, refused}
+use Rattle.draws.specs.declared.Stop.{Stop}
 use Rattle.draws.specs.declared.Stop.TheVariants.{DrawOutOfRange}
 use Rattle.kmeans.specs.declared.Clustered.{Clustered}
-use Rattle.kmeans.specs.declared.Clustered.TheVariants.{Done, Stopped}
 use Rattle.kmeans.specs.declared.Labelled.{Labelled}
-use Rattle.kmeans.specs.declared.Labelled.TheVariants as labelled
 use Rattle.kmeans.specs.Clustering.{Grouped}
 
 -- the answer: the place of the next draw, which is `next`, and how the passes ended; or the place of a draw out of range
-abbrev pub clustered_of : ℕ → Drawn Grouped → Clustered
-clustered_of next (drawn g rest) = Done next g.ended
-clustered_of next (refused p) = Stopped (DrawOutOfRange p)
+abbrev pub clustered_of : ℕ → Drawn Grouped → Result Clustered Stop
+clustered_of next (drawn g rest) = Ok (record { at = next; ended = g.ended })
+clustered_of next (refused p) = Err (DrawOutOfRange p)
 
 -- the labels after the call; a draw out of range leaves them as they were
 abbrev pub labels_after : Drawn Grouped → List ℕ → List ℕ
 labels_after (drawn g rest) old = g.labels
 labels_after (refused p) old = old
 
-pub record ClusteredBy (g : Drawn Grouped) (next : ℕ) (labels : List ℕ) (r : Clustered) (labels' : List ℕ) : Type 0 where
+pub record ClusteredBy (g : Drawn Grouped) (next : ℕ) (labels : List ℕ) (r : Result Clustered Stop) (labels' : List ℕ) : Type 0 where
   pub answer_is : r ≡ clustered_of next g
   pub labels_are : labels' ≡ labels_after g labels
 
@@ -40,10 +39,10 @@ abbrev pub seed_moved : (ℕ → ℕ → Float) → ℕ → ℕ → Source → S
 seed_moved x m k src = moved_on src (seeding_of k) (seed_next src (squared_at x m) m k)
 
 -- the answer: the source behind the draws, which is `next`, and how the passes ended; or the place of a draw out of range
-abbrev pub labelled_of : Source → Drawn Grouped → Labelled
-labelled_of next (drawn g rest) = labelled.Done next g.ended
-labelled_of next (refused p) = labelled.Stopped (DrawOutOfRange p)
+abbrev pub labelled_of : Source → Drawn Grouped → Result Labelled Stop
+labelled_of next (drawn g rest) = Ok (record { source = next; ended = g.ended })
+labelled_of next (refused p) = Err (DrawOutOfRange p)
 
-pub record LabelledBy (g : Drawn Grouped) (next : Source) (labels : List ℕ) (r : Labelled) (labels' : List ℕ) : Type 0 where
+pub record LabelledBy (g : Drawn Grouped) (next : Source) (labels : List ℕ) (r : Result Labelled Stop) (labels' : List ℕ) : Type 0 where
   pub answer_is : r ≡ labelled_of next g
   pub labels_are : labels' ≡ labels_after g labels

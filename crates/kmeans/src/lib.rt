@@ -13,21 +13,20 @@ ghost use Rattle.plusplus_seeded.specs.Sources.{SuppliedBy, RngOf};
 
 use draws::Stop;
 use lloyd_pass::Ended;
-use plusplus::Seeded;
-use plusplus_seeded::{Source, Supplied};
+use plusplus_seeded::Source;
 
-// The place of the next draw, and whether the passes converged; or what ends the run.
+// The place of the next draw, and whether the passes converged.
 #[derive(Drop)]
-pub enum Clustered {
-    Done(usize, Ended),
-    Stopped(Stop),
+pub struct Clustered {
+    pub at: usize,
+    pub ended: Ended,
 }
 
-// The source behind the draws, and whether the passes converged; or what ends the run.
+// The source behind the draws, and whether the passes converged.
 #[derive(Drop)]
-pub enum Labelled {
-    Done(Source, Ended),
-    Stopped(Stop),
+pub struct Labelled {
+    pub source: Source,
+    pub ended: Ended,
 }
 
 // The points into the first area, and from them what k-means reads. Inner form. The fourth and the fifth area are left with
@@ -52,7 +51,7 @@ fn seed_by_in(
     centres: &mut [usize],
     weights: &mut [f64],
     rng: &mut [u32],
-) -> Supplied
+) -> Result<Source, Stop>
     requires { Held area.now m × MayCluster m (length centres.old) draws.now src × (length weights.old ≡ m) × RngOf src rng.old }
     ensures supplied_by { SuppliedBy (seeding (squared_at (points_at area.now m) m) m (length centres.old) src.at (seed_given (points_at area.now m) m (length centres.old) src draws.now))
         (seed_moved (points_at area.now m) m (length centres.old) src) result centres.new }
@@ -71,7 +70,7 @@ pub fn seed_in(
     at: usize,
     centres: &mut [usize],
     weights: &mut [f64],
-) -> Seeded
+) -> Result<usize, Stop>
     requires { Held area.now m × MaySeed m (length centres.old) draws.now at × (length weights.old ≡ m) }
     ensures { SeededBy (seeding (squared_at (points_at area.now m) m) m (length centres.old) at (drop at draws.now))
         (at + seeding_of (length centres.old)) result centres.new }
@@ -83,10 +82,8 @@ pub fn seed_in(
         taken: 0,
     };
     let mut none = lists::buffer::<u32, 72>(0);
-    match seed_by_in(area, m, draws, src, centres, weights, &mut none) {
-        Supplied::Stopped(s) => Seeded::Stopped(s),
-        Supplied::Done(next) => Seeded::Done(next.at),
-    }
+    let next = seed_by_in(area, m, draws, src, centres, weights, &mut none)?;
+    Ok(next.at)
 }
 
 // Centres, then labels. The labels are written once the draws have been taken.
@@ -99,20 +96,16 @@ fn cluster(
     centres: &mut [usize],
     weights: &mut [f64],
     rng: &mut [u32],
-) -> Labelled
+) -> Result<Labelled, Stop>
     requires { Held area.old m × MayCluster m (length centres.old) draws.now src × (length weights.old ≡ m) × (length labels.old ≡ m) × RngOf src rng.old }
     ensures labelled_by { LabelledBy (kmeans_of (points_at area.old m) m (length centres.old) src.at (seed_given (points_at area.old m) m (length centres.old) src draws.now))
         (seed_moved (points_at area.old m) m (length centres.old) src) labels.old result labels.new }
     ensures area_unchanged { take (4 * (m * m)) area.new ≡ take (4 * (m * m)) area.old }
     ensures rng_of { RngOf (seed_moved (points_at area.old m) m (length centres.old) src) rng.new }
 {
-    match seed_by_in(area, m, draws, src, centres, weights, rng) {
-        Supplied::Stopped(s) => Labelled::Stopped(s),
-        Supplied::Done(next) => {
-            let ended = lloyd::lloyd_in(area, m, centres, labels);
-            Labelled::Done(next, ended)
-        }
-    }
+    let source = seed_by_in(area, m, draws, src, centres, weights, rng)?;
+    let ended = lloyd::lloyd_in(area, m, centres, labels);
+    Ok(Labelled { source, ended })
 }
 
 // The labels of the m items in k groups, by the draws of the source. Inner form. The fifth area, the table, is left with
@@ -125,7 +118,7 @@ pub fn labels_by(
     src: Source,
     labels: &mut [usize],
     rng: &mut [u32],
-) -> Labelled
+) -> Result<Labelled, Stop>
     requires { Held area.old m × MayCluster m k draws.now src × (length labels.old ≡ m) × RngOf src rng.old }
     ensures labelled_by { LabelledBy (kmeans_of (points_at area.old m) m k src.at (seed_given (points_at area.old m) m k src draws.now)) (seed_moved (points_at area.old m) m k src) labels.old result labels.new }
     ensures area_unchanged { take (4 * (m * m)) area.new ≡ take (4 * (m * m)) area.old }
@@ -167,7 +160,7 @@ pub fn labels_in(
     draws: &[u64],
     at: usize,
     labels: &mut [usize],
-) -> Clustered
+) -> Result<Clustered, Stop>
     requires { Held area.old m × MaySeed m k draws.now at × (length labels.old ≡ m) }
     ensures clustered_by { ClusteredBy (kmeans_of (points_at area.old m) m k at (drop at draws.now)) (at + seeding_of k) labels.old result labels.new }
     ensures area_unchanged { take (4 * (m * m)) area.new ≡ take (4 * (m * m)) area.old }
@@ -179,8 +172,9 @@ pub fn labels_in(
         taken: 0,
     };
     let mut none = lists::buffer::<u32, 72>(0);
-    match labels_by(area, m, k, draws, src, labels, &mut none) {
-        Labelled::Stopped(s) => Clustered::Stopped(s),
-        Labelled::Done(next, ended) => Clustered::Done(next.at, ended),
-    }
+    let next = labels_by(area, m, k, draws, src, labels, &mut none)?;
+    Ok(Clustered {
+        at: next.source.at,
+        ended: next.ended,
+    })
 }

@@ -1,14 +1,13 @@
 -- k-means++ seeding (Arthur and Vassilvitskii 2007): k centres among m items, with q p i the squared distance of items p and i. Definitions only.
-use Rattle.std.specs.Prelude.{ℕ, zero, suc, ◌+◌, ◌-◌, ◌*◌, ◌<◌, ◌≤◌, ◌≡◌, List, [], ◌∷◌, ◌++◌, length, Float}
+use Rattle.std.specs.Prelude.{ℕ, zero, suc, ◌+◌, ◌-◌, ◌*◌, ◌<◌, ◌≤◌, ◌≡◌, List, [], ◌∷◌, ◌++◌, Result, Ok, Err, length, Float}
 use Rattle.lists.specs.Lists.{cells, listed, numbers}
 use Rattle.draws.specs.Counts.{trials_of, seeding_of}
 use Rattle.draws.specs.Draws.{Drawn, drawn, refused, index_draw, and_then}
+use Rattle.draws.specs.declared.Stop.{Stop}
 use Rattle.draws.specs.declared.Stop.TheVariants.{DrawOutOfRange}
 use Rattle.plusplus_pick.specs.declared.Trial.{Trial}
 use Rattle.plusplus_pick.specs.Potentials.{with}
 use Rattle.plusplus_trials.specs.Trials.{next_of}
-use Rattle.plusplus.specs.declared.Seeded.{Seeded}
-use Rattle.plusplus.specs.declared.Seeded.TheVariants.{Done, Stopped}
 
 -- j centres more, behind cs, of t trials each; ws has the weights of the m items with cs as centres
 unfoldable pub centres_of : (ℕ → ℕ → Float) → ℕ → ℕ → ℕ → List Float → List ℕ → ℕ → List ℕ → Drawn (List ℕ)
@@ -30,9 +29,9 @@ Weights q m ws (drawn b rest) ws' = ws' ≡ listed (with q (cells ws) b.pick) m
 Weights q m ws (refused p) ws' = Unit
 
 -- the answer: the place of the next draw, which is `next`; or what ends the run
-abbrev pub answer_of : ℕ → Drawn (List ℕ) → Seeded
-answer_of next (drawn cs rest) = Done next
-answer_of next (refused p) = Stopped (DrawOutOfRange p)
+abbrev pub answer_of : ℕ → Drawn (List ℕ) → Result ℕ Stop
+answer_of next (drawn cs rest) = Ok next
+answer_of next (refused p) = Err (DrawOutOfRange p)
 
 -- the list of centres after the call; where a draw was out of range only its length is known
 abbrev pub CentresAfter : Drawn (List ℕ) → List ℕ → Type 0
@@ -56,6 +55,6 @@ pub record Ready (squares : List Float) (m k : ℕ) (draws : List ℕ) (at : ℕ
   pub asked : MaySeed m k draws at
 
 -- what a call answers, and what it leaves
-pub record SeededBy (r : Drawn (List ℕ)) (next : ℕ) (answer : Seeded) (centres' : List ℕ) : Type 0 where
+pub record SeededBy (r : Drawn (List ℕ)) (next : ℕ) (answer : Result ℕ Stop) (centres' : List ℕ) : Type 0 where
   pub answer_is : answer ≡ answer_of next r
   pub centres_are : CentresAfter r centres'

@@ -10,12 +10,8 @@ ghost use Rattle.plusplus_pick.specs.Potentials.{RunningSums};
 ghost use Rattle.plusplus_trials.specs.Trials.{table, next_of, tried_of, Weighed};
 ghost use Rattle.plusplus.specs.Seeding.{centres_of, seeding, Weights, Ready, SeededBy};
 
-// The place of the next draw, or what ends the run.
-#[derive(Drop)]
-pub enum Seeded {
-    Done(usize),
-    Stopped(draws::Stop),
-}
+use draws::Stop;
+use plusplus_pick::Trial;
 
 // The weights with the item of the row as a centre too.
 fn keep_lesser(weights: &mut [f64], squares: &[f64])
@@ -37,7 +33,7 @@ pub fn centre_by_sums(
     draws: &[u64],
     at: usize,
     count: usize,
-) -> plusplus_trials::Tried
+) -> Result<Trial, Stop>
     requires weighed { Weighed squares.now weights.old × RunningSums sums.now weights.old × (total ≡ sum_to (cells weights.old) (length weights.old)) }
     requires le_count { (2 ≤ count) × (at + count ≤ length draws.now) }
     ensures value { result ≡ tried_of (next_of (table squares.now (length weights.old)) (length weights.old) count weights.old at (drop at draws.now)) }
@@ -45,13 +41,9 @@ pub fn centre_by_sums(
         (next_of (table squares.now (length weights.old)) (length weights.old) count weights.old at (drop at draws.now)) weights.new }
 {
     let m = weights.len();
-    match plusplus_trials::best_trial(squares, weights, sums, total, draws, at, count) {
-        plusplus_trials::Tried::Stopped(s) => plusplus_trials::Tried::Stopped(s),
-        plusplus_trials::Tried::Best(b) => {
-            keep_lesser(weights, lists::row_of(squares, m, b.pick));
-            plusplus_trials::Tried::Best(b)
-        }
-    }
+    let b = plusplus_trials::best_trial(squares, weights, sums, total, draws, at, count)?;
+    keep_lesser(weights, lists::row_of(squares, m, b.pick));
+    Ok(b)
 }
 
 // The best trial's pick becomes a centre. `sums` holds anything, before the call and after it.
@@ -62,7 +54,7 @@ fn next_centre(
     at: usize,
     count: usize,
     sums: &mut [f64],
-) -> plusplus_trials::Tried
+) -> Result<Trial, Stop>
     requires weighed { Weighed squares.now weights.old }
     requires le_count { (2 ≤ count) × (at + count ≤ length draws.now) × (length sums.old ≡ length weights.old) }
     ensures value { result ≡ tried_of (next_of (table squares.now (length weights.old)) (length weights.old) count weights.old at (drop at draws.now)) }
@@ -81,7 +73,7 @@ fn more_centres(
     centres: &mut [usize],
     weights: &mut [f64],
     sums: &mut [f64],
-) -> Seeded
+) -> Result<usize, Stop>
     requires weighed { Weighed squares.now weights.old × (length sums.old ≡ length weights.old) }
     requires centres_nonzero { (0 < length centres.old) × (length centres.old ≤ 256) × (from + (length centres.old - 1) * trials_of (length centres.old) ≤ length draws.now) }
     ensures { SeededBy (centres_of (table squares.now (length weights.old)) (length weights.old) (trials_of (length centres.old))
@@ -92,21 +84,15 @@ fn more_centres(
     let count = draws::trials(k);
     let mut at = from;
     for j in 1..k {
-        match next_centre(squares, weights, draws, at, count, sums) {
-            plusplus_trials::Tried::Stopped(s) => {
-                return Seeded::Stopped(s);
-            }
-            plusplus_trials::Tried::Best(b) => {
-                centres[j] = b.pick;
-                at = at + count;
-            }
-        }
+        let b = next_centre(squares, weights, draws, at, count, sums)?;
+        centres[j] = b.pick;
+        at = at + count;
     }
-    Seeded::Done(at)
+    Ok(at)
 }
 
-// As many centres as the list holds, among the items of the table, with the draws from place `at` on. Inner form. The
-// lent weights hold anything, before the call and after it; so does the list of centres before it, and after it where a
+// As many centres as the list holds, among the items of the table, with the draws from place `at` on. Answers the place of the next draw, or what
+// ends the run. Inner form. The lent weights hold anything, before the call and after it; so does the list of centres before it, and after it where a
 // draw stopped it.
 pub fn seed(
     squares: &[f64],
@@ -114,20 +100,16 @@ pub fn seed(
     at: usize,
     centres: &mut [usize],
     weights: &mut [f64],
-) -> Seeded
+) -> Result<usize, Stop>
     requires { Ready squares.now (length weights.old) (length centres.old) draws.now at }
     ensures { SeededBy (seeding (table squares.now (length weights.old)) (length weights.old) (length centres.old) at (drop at draws.now))
         (at + seeding_of (length centres.old)) result centres.new }
 {
     let m = weights.len();
-    match draws::draw_below(draws, at, m as u64) {
-        draws::Draw::Stopped(s) => Seeded::Stopped(s),
-        draws::Draw::Value(d) => {
-            let c = d as usize;
-            centres[0] = c;
-            weights.copy_from_slice(lists::row_of(squares, m, c));
-            let mut sums = lists::buffer::<f64, 256>(0.0);
-            more_centres(squares, draws, at + 1, centres, weights, &mut sums[..m])
-        }
-    }
+    let d = draws::draw_below(draws, at, m as u64)?;
+    let c = d as usize;
+    centres[0] = c;
+    weights.copy_from_slice(lists::row_of(squares, m, c));
+    let mut sums = lists::buffer::<f64, 256>(0.0);
+    more_centres(squares, draws, at + 1, centres, weights, &mut sums[..m])
 }

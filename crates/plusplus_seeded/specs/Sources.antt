@@ -1,7 +1,8 @@
 -- Where draws come from: a list, or the generator of a seed. Definitions only.
-use Rattle.std.specs.Prelude.{ℕ, ◌+◌, ◌*◌, ◌^◌, ◌<◌, ◌≤◌, ◌≡◌, true, false, cond, List, length, drop, Float}
+use Rattle.std.specs.Prelude.{ℕ, ◌+◌, ◌*◌, ◌^◌, ◌<◌, ◌≤◌, ◌≡◌, true, false, cond, List, Result, Ok, Err, length, drop, Float}
 use Rattle.draws.specs.Counts.{seeding_of}
 use Rattle.draws.specs.Draws.{Drawn, drawn, refused}
+use Rattle.draws.specs.declared.Stop.{Stop}
 use Rattle.draws.specs.declared.Stop.TheVariants.{DrawOutOfRange}
 use Rattle.plusplus.specs.Seeding.{CentresAfter}
 use Rattle.rng_std.specs.Seeds.{key_of}
@@ -9,8 +10,6 @@ use Rattle.rng_std.specs.Words.{word_of}
 use Rattle.rng_std.specs.States.{key_in, Holds}
 use Rattle.plusplus_seeded.specs.Seeded.{seed_made}
 use Rattle.plusplus_seeded.specs.declared.Source.{Source}
-use Rattle.plusplus_seeded.specs.declared.Supplied.{Supplied}
-use Rattle.plusplus_seeded.specs.declared.Supplied.TheVariants.{Done, Stopped}
 
 -- the words of the source's generator
 abbrev pub words_by : Source → ℕ → ℕ
@@ -51,10 +50,10 @@ abbrev pub seed_next : Source → (ℕ → ℕ → Float) → ℕ → ℕ → �
 seed_next src q m k i = (seed_made (words_by src) q m k i).next
 
 -- the answer: the source behind the draws, which is `next`; or what ends the run
-abbrev pub supplied_of : Source → Drawn (List ℕ) → Supplied
-supplied_of next (drawn cs rest) = Done next
-supplied_of next (refused p) = Stopped (DrawOutOfRange p)
+abbrev pub supplied_of : Source → Drawn (List ℕ) → Result Source Stop
+supplied_of next (drawn cs rest) = Ok next
+supplied_of next (refused p) = Err (DrawOutOfRange p)
 
-pub record SuppliedBy (r : Drawn (List ℕ)) (next : Source) (answer : Supplied) (centres' : List ℕ) : Type 0 where
+pub record SuppliedBy (r : Drawn (List ℕ)) (next : Source) (answer : Result Source Stop) (centres' : List ℕ) : Type 0 where
   pub answer_is : answer ≡ supplied_of next r
   pub centres_are : CentresAfter r centres'

@@ -69,16 +69,12 @@ fn next_from(
     let count = draws.len();
     let total = plusplus_pick::sum_weights(weights, sums);
     let next = draw_all(rng, taken, total, m, draws);
-    match plusplus::centre_by_sums(squares, weights, sums, total, draws, 0, count) {
-        plusplus_trials::Tried::Stopped(s) => Picked {
-            pick: 0,
-            taken: next,
-        },
-        plusplus_trials::Tried::Best(b) => Picked {
-            pick: b.pick,
-            taken: next,
-        },
-    }
+    let pick = match plusplus::centre_by_sums(squares, weights, sums, total, draws, 0, count) {
+        // never so: the generator's draws are in range
+        Err(_stop) => 0,
+        Ok(b) => b.pick,
+    };
+    Picked { pick, taken: next }
 }
 
 // The centres behind the first. The weights are those with the first as centre. It answers how many words are then taken.
@@ -160,14 +156,8 @@ pub struct Source {
     pub taken: u64,
 }
 
-// The source behind the draws, or what ends the run.
-#[derive(Drop)]
-pub enum Supplied {
-    Done(Source),
-    Stopped(draws::Stop),
-}
-
-// As many centres as the list holds, among the items of the table, by the draws of the source, whose generator `rng` is. The other lists hold anything before
+// As many centres as the list holds, among the items of the table, by the draws of the source, whose generator `rng` is. Answers the source behind the draws,
+// or what ends the run. The other lists hold anything before
 // the call, the weights after it too, and so do the centres where a draw stopped it.
 pub fn seed_by(
     squares: &[f64],
@@ -176,7 +166,7 @@ pub fn seed_by(
     centres: &mut [usize],
     weights: &mut [f64],
     rng: &mut [u32],
-) -> Supplied
+) -> Result<Source, draws::Stop>
     requires { MaySupply squares.now (length weights.old) (length centres.old) draws.now src × RngOf src rng.old }
     ensures supplied_by { SuppliedBy (seeding (table squares.now (length weights.old)) (length weights.old) (length centres.old) src.at
         (given src draws.now (seed_draws src (table squares.now (length weights.old)) (length weights.old) (length centres.old))))
@@ -188,20 +178,18 @@ pub fn seed_by(
     let k = centres.len();
     if src.seeded {
         let taken = seed_on(squares, rng, src.taken, centres, weights);
-        return Supplied::Done(Source {
+        return Ok(Source {
             at: at + draws::draws_of(k),
             seeded: true,
             seed: src.seed,
             taken,
         });
     }
-    match plusplus::seed(squares, draws, at, centres, weights) {
-        plusplus::Seeded::Stopped(s) => Supplied::Stopped(s),
-        plusplus::Seeded::Done(next) => Supplied::Done(Source {
-            at: next,
-            seeded: false,
-            seed: src.seed,
-            taken: src.taken,
-        }),
-    }
+    let next = plusplus::seed(squares, draws, at, centres, weights)?;
+    Ok(Source {
+        at: next,
+        seeded: false,
+        seed: src.seed,
+        taken: src.taken,
+    })
 }

@@ -1,14 +1,13 @@
 -- One centre more of k-means++ (Arthur and Vassilvitskii 2007), the best of its trials: w i is item i's weight, its least squared distance to a centre,
 -- q p i its squared distance to item p, and there are m items. A trial is that of plusplus_pick/specs/Potentials.antt. Definitions only.
-use Rattle.std.specs.Prelude.{ℕ, ◌-◌, ◌+◌, ◌*◌, ◌≤◌, ◌<◌, ◌≡◌, List, length, Float}
+use Rattle.std.specs.Prelude.{ℕ, ◌-◌, ◌+◌, ◌*◌, ◌≤◌, ◌<◌, ◌≡◌, List, Result, Ok, Err, length, Float}
 use Rattle.lists.specs.Lists.{cells, row}
 use Rattle.lists.specs.Sums.{sum_to}
+use Rattle.draws.specs.declared.Stop.{Stop}
 use Rattle.draws.specs.declared.Stop.TheVariants.{DrawOutOfRange}
 use Rattle.draws.specs.Draws.{Drawn, drawn, refused, takes, one_draw, and_then}
 use Rattle.plusplus_pick.specs.declared.Trial.{Trial}
 use Rattle.plusplus_pick.specs.Potentials.{limit, trial, better}
-use Rattle.plusplus_trials.specs.declared.Tried.{Tried}
-use Rattle.plusplus_trials.specs.declared.Tried.TheVariants.{Best, Stopped}
 
 -- the better of b and the trial of the draw d
 abbrev pub against : (ℕ → ℕ → Float) → (ℕ → Float) → Float → ℕ → Trial → ℕ → Trial
@@ -29,9 +28,9 @@ abbrev pub table : List Float → ℕ → ℕ → ℕ → Float
 table squares m p = cells (row squares m p)
 
 -- the answer of a search for the best trial
-abbrev pub tried_of : Drawn Trial → Tried
-tried_of (drawn b rest) = Best b
-tried_of (refused p) = Stopped (DrawOutOfRange p)
+abbrev pub tried_of : Drawn Trial → Result Trial Stop
+tried_of (drawn b rest) = Ok b
+tried_of (refused p) = Err (DrawOutOfRange p)
 
 -- a table of the items that the weights are of
 pub record Weighed (squares ws : List Float) : Type 0 where

@@ -9,14 +9,8 @@ ghost use Rattle.plusplus_pick.specs.Potentials as spec;
 ghost use Rattle.plusplus_pick.specs.Potentials.{RunningSums};
 ghost use Rattle.plusplus_trials.specs.Trials.{against, table, next_of, tried_of, Weighed};
 
+use draws::Stop;
 use plusplus_pick::{Trial, better};
-
-// The best trial of a centre, or what ends the run.
-#[derive(Drop)]
-pub enum Tried {
-    Best(Trial),
-    Stopped(draws::Stop),
-}
 
 // What a draw picks, with its potential.
 fn try_draw(squares: &[f64], weights: &[f64], sums: &[f64], total: f64, d: u64) -> Trial
@@ -135,22 +129,18 @@ fn last_trial(
     from: usize,
     end: usize,
     b: Trial,
-) -> Tried
+) -> Result<Trial, Stop>
     requires weighed { Weighed squares.now weights.now × RunningSums sums.now weights.now × (total ≡ sum_to (cells weights.now) (length weights.now)) }
     requires end_bound { (end ≤ from + 1) × (end ≤ length draws.now) }
     ensures { result ≡ tried_of (takes (spec.limit total (length weights.now))
         (against (table squares.now (length weights.now)) (cells weights.now) total (length weights.now)) (end - from) b from (drop from draws.now)) }
 {
     if from >= end {
-        return Tried::Best(b);
+        return Ok(b);
     }
-    match draws::draw_below(draws, from, plusplus_pick::limit(total, weights.len())) {
-        draws::Draw::Stopped(s) => Tried::Stopped(s),
-        draws::Draw::Value(d) => {
-            let t = try_draw(squares, weights, sums, total, d);
-            Tried::Best(better(b, t))
-        }
-    }
+    let d = draws::draw_below(draws, from, plusplus_pick::limit(total, weights.len()))?;
+    let t = try_draw(squares, weights, sums, total, d);
+    Ok(better(b, t))
 }
 
 // The best of `first` and the trials of the draws from place `from` on, `more` of them, two at a time.
@@ -163,7 +153,7 @@ fn later_trials(
     from: usize,
     more: usize,
     first: Trial,
-) -> Tried
+) -> Result<Trial, Stop>
     requires weighed { Weighed squares.now weights.now × RunningSums sums.now weights.now × (total ≡ sum_to (cells weights.now) (length weights.now)) }
     requires more_in_bounds { from + more ≤ length draws.now }
     ensures { result ≡ tried_of (takes (spec.limit total (length weights.now))
@@ -174,21 +164,11 @@ fn later_trials(
     let mut b = first;
     let mut i = from;
     while i + 1 < end {
-        match draws::draw_below(draws, i, top) {
-            draws::Draw::Stopped(s) => {
-                return Tried::Stopped(s);
-            }
-            draws::Draw::Value(c) => match draws::draw_below(draws, i + 1, top) {
-                draws::Draw::Stopped(s) => {
-                    return Tried::Stopped(s);
-                }
-                draws::Draw::Value(d) => {
-                    let t = try_two(squares, weights, sums, total, c, d);
-                    b = better(better(b, t.first), t.second);
-                    i = i + 2;
-                }
-            },
-        }
+        let c = draws::draw_below(draws, i, top)?;
+        let d = draws::draw_below(draws, i + 1, top)?;
+        let t = try_two(squares, weights, sums, total, c, d);
+        b = better(better(b, t.first), t.second);
+        i = i + 2;
     }
     last_trial(squares, weights, sums, total, draws, i, end, b)
 }
@@ -203,21 +183,17 @@ fn first_trials(
     from: usize,
     more: usize,
     c: u64,
-) -> Tried
+) -> Result<Trial, Stop>
     requires weighed { Weighed squares.now weights.now × RunningSums sums.now weights.now × (total ≡ sum_to (cells weights.now) (length weights.now)) }
     requires c_bound { (c < spec.limit total (length weights.now)) × (0 < more) × (from + more ≤ length draws.now) }
     ensures { result ≡ tried_of (takes (spec.limit total (length weights.now))
         (against (table squares.now (length weights.now)) (cells weights.now) total (length weights.now)) more
         (spec.trial (table squares.now (length weights.now)) (cells weights.now) total (length weights.now) c) from (drop from draws.now)) }
 {
-    match draws::draw_below(draws, from, plusplus_pick::limit(total, weights.len())) {
-        draws::Draw::Stopped(s) => Tried::Stopped(s),
-        draws::Draw::Value(d) => {
-            let t = try_two(squares, weights, sums, total, c, d);
-            let b = better(t.first, t.second);
-            later_trials(squares, weights, sums, total, draws, from + 1, more - 1, b)
-        }
-    }
+    let d = draws::draw_below(draws, from, plusplus_pick::limit(total, weights.len()))?;
+    let t = try_two(squares, weights, sums, total, c, d);
+    let b = better(t.first, t.second);
+    later_trials(squares, weights, sums, total, draws, from + 1, more - 1, b)
 }
 
 // The best of the trials of the draw c and of the draws from place `from` on, `more` of them and three at least: the first four side by side.
@@ -230,7 +206,7 @@ fn four_trials(
     from: usize,
     more: usize,
     c: u64,
-) -> Tried
+) -> Result<Trial, Stop>
     requires weighed { Weighed squares.now weights.now × RunningSums sums.now weights.now × (total ≡ sum_to (cells weights.now) (length weights.now)) }
     requires c_bound { (c < spec.limit total (length weights.now)) × (3 ≤ more) × (from + more ≤ length draws.now) }
     ensures { result ≡ tried_of (takes (spec.limit total (length weights.now))
@@ -238,20 +214,12 @@ fn four_trials(
         (spec.trial (table squares.now (length weights.now)) (cells weights.now) total (length weights.now) c) from (drop from draws.now)) }
 {
     let top = plusplus_pick::limit(total, weights.len());
-    match draws::draw_below(draws, from, top) {
-        draws::Draw::Stopped(s) => Tried::Stopped(s),
-        draws::Draw::Value(d) => match draws::draw_below(draws, from + 1, top) {
-            draws::Draw::Stopped(s) => Tried::Stopped(s),
-            draws::Draw::Value(e) => match draws::draw_below(draws, from + 2, top) {
-                draws::Draw::Stopped(s) => Tried::Stopped(s),
-                draws::Draw::Value(f) => {
-                    let t = try_four(squares, weights, sums, total, c, d, e, f);
-                    let b = better(better(better(t.first, t.second), t.third), t.fourth);
-                    later_trials(squares, weights, sums, total, draws, from + 3, more - 3, b)
-                }
-            },
-        },
-    }
+    let d = draws::draw_below(draws, from, top)?;
+    let e = draws::draw_below(draws, from + 1, top)?;
+    let f = draws::draw_below(draws, from + 2, top)?;
+    let t = try_four(squares, weights, sums, total, c, d, e, f);
+    let b = better(better(better(t.first, t.second), t.third), t.fourth);
+    later_trials(squares, weights, sums, total, draws, from + 3, more - 3, b)
 }
 
 // The best of `count` trials, with the draws from place `at` on, by the running weights and their total. Inner form: the list has so many draws there.
@@ -263,18 +231,14 @@ pub fn best_trial(
     draws: &[u64],
     at: usize,
     count: usize,
-) -> Tried
+) -> Result<Trial, Stop>
     requires weighed { Weighed squares.now weights.now × RunningSums sums.now weights.now × (total ≡ sum_to (cells weights.now) (length weights.now)) }
     requires le_count { (2 ≤ count) × (at + count ≤ length draws.now) }
     ensures { result ≡ tried_of (next_of (table squares.now (length weights.now)) (length weights.now) count weights.now at (drop at draws.now)) }
 {
-    match draws::draw_below(draws, at, plusplus_pick::limit(total, weights.len())) {
-        draws::Draw::Stopped(s) => Tried::Stopped(s),
-        draws::Draw::Value(c) => {
-            if count >= 4 {
-                return four_trials(squares, weights, sums, total, draws, at + 1, count - 1, c);
-            }
-            first_trials(squares, weights, sums, total, draws, at + 1, count - 1, c)
-        }
+    let c = draws::draw_below(draws, at, plusplus_pick::limit(total, weights.len()))?;
+    if count >= 4 {
+        return four_trials(squares, weights, sums, total, draws, at + 1, count - 1, c);
     }
+    first_trials(squares, weights, sums, total, draws, at + 1, count - 1, c)
 }

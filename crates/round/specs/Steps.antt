@@ -1,6 +1,6 @@
 -- What the functions of the start of a round ask and leave. Definitions only.
 -- Where things stand in the two lists of the run: crates/round_lists/specs/Steps.antt.
-use Rattle.std.specs.Prelude.{ℕ, ◌+◌, ◌-◌, ◌*◌, ◌<◌, ◌≤◌, ◌≡◌, true, false, List, length, take, drop, Float}
+use Rattle.std.specs.Prelude.{ℕ, ◌+◌, ◌-◌, ◌*◌, ◌<◌, ◌≤◌, ◌≡◌, true, false, List, Result, Ok, Err, length, take, drop, Float}
 use Rattle.lists.specs.Lists.{numbers, part}
 use Rattle.partition.specs.Partition.{State, joined}
 use Rattle.partition.specs.Orders.{sizes_of}
@@ -10,7 +10,7 @@ use Rattle.improve_merge.specs.Merging.{weak_items}
 use Rattle.plusplus_seeded.specs.declared.Source.{Source}
 use Rattle.plusplus_seeded.specs.Sources.{Supplies}
 use Rattle.round.specs.declared.RoundStart.{RoundStart}
-use Rattle.round.specs.declared.RoundStart.TheVariants as roundStart
+use Rattle.draws.specs.declared.Stop.{Stop}
 use Rattle.round.specs.Round.{Opening, started, unstarted, need_of}
 
 -- where a source stands with `left` of 32 rounds left, each of which takes at most 13723392 draws, and at most two words for a draw
@@ -37,9 +37,10 @@ pub record BaseAt (n m : ℕ) (s : State) (wi : List ℕ) (wf : List Float) : Ty
   pub scores_at : take m wf ≡ s.scores
 
 -- the answer of a start: how many groups the base has, how many are weak, how many items those have, and the source behind the draws
-abbrev pub round_start_of : Source → Opening → RoundStart
-round_start_of next (started s rest) = roundStart.Base (length s.groups) (weak_count (qualities_of s.scores s.groups)) (length (weak_items s)) next
-round_start_of next (unstarted s ms) = roundStart.Stopped s
+abbrev pub round_start_of : Source → Opening → Result RoundStart Stop
+round_start_of next (started s rest) =
+    Ok (record { groups = length s.groups; weak = weak_count (qualities_of s.scores s.groups); items = length (weak_items s); source = next })
+round_start_of next (unstarted s ms) = Err s
 
 -- what it leaves: the rows, the base, and the rows of the weak items at the front of the inner round's numbers
 abbrev pub Starts : Opening → ℕ → ℕ → List ℕ → List ℕ → List Float → Type 0
@@ -47,7 +48,7 @@ Starts (started s rest) n m rows wi wf =
     (take m wi ≡ rows) × BaseAt n m s wi wf × (part (3 * n) (length (weak_items s)) wi ≡ rows_of rows (weak_items s))
 Starts (unstarted s ms) n m rows wi wf = Unit
 
-pub record RoundStarted (o : Opening) (n m left : ℕ) (next : Source) (a : RoundStart) (wi wi' : List ℕ) (wf wf' : List Float) : Type 0 where
+pub record RoundStarted (o : Opening) (n m left : ℕ) (next : Source) (a : Result RoundStart Stop) (wi wi' : List ℕ) (wf wf' : List Float) : Type 0 where
   pub answer_is : a ≡ round_start_of next o
   pub starts : Starts o n m (take m wi) wi' wf'
   pub behind : drop (4 * n) wi' ≡ drop (4 * n) wi

@@ -6,16 +6,16 @@ ghost use Rattle.round.specs.Round.{opening_of};
 ghost use Rattle.round.specs.Made.{own_given, own_moved};
 ghost use Rattle.round.specs.Steps.{RoundInput, RoundStarted, MayStart};
 
-use base::Based;
 use draws::Stop;
 use plusplus_seeded::Source;
 
-// How many groups the base has, how many of them are weak, how many items those have, and the source behind the draws; or what
-// ends the run.
+// How many groups the base has, how many of them are weak, how many items those have, and the source behind the draws.
 #[derive(Drop)]
-pub enum RoundStart {
-    Base(usize, usize, usize, Source),
-    Stopped(Stop),
+pub struct RoundStart {
+    pub groups: usize,
+    pub weak: usize,
+    pub items: usize,
+    pub source: Source,
 }
 
 // The round's base and its weak items, where there are draws enough; `order`, `sizes` and `scores` are lists to work in.
@@ -31,7 +31,7 @@ fn start_with(
     order: &mut [usize],
     sizes: &mut [usize],
     scores: &mut [f64],
-) -> RoundStart
+) -> Result<RoundStart, Stop>
     requires { MayStart book.now n (length order.old) repeat draws.now src left wi.old wf.old × (length sizes.old ≡ length order.old) × (length scores.old ≡ length order.old) }
     ensures { RoundStarted (opening_of book.now n repeat (take (length order.old) wi.old) src.at (own_given src draws.now book.now n repeat (take (length order.old) wi.old))) n (length order.old) left
         (own_moved src book.now n repeat (take (length order.old) wi.old)) result wi.old wi.new wf.old wf.new }
@@ -39,7 +39,7 @@ fn start_with(
     let m = order.len();
     let off = left * n;
     let end = off + 5 * (m * m);
-    match base::cluster_kmeans_base(
+    let based = base::cluster_kmeans_base(
         book,
         n,
         &wi[..m],
@@ -50,14 +50,16 @@ fn start_with(
         order,
         sizes,
         scores,
-    ) {
-        Based::Stopped(s) => RoundStart::Stopped(s),
-        Based::Done(groups, next) => {
-            round_lists::store_base(n, order, sizes, scores, wi, wf);
-            let weak = round_lists::find_weak(n, groups, order, sizes, scores, wi);
-            RoundStart::Base(groups, weak.groups, weak.items, next)
-        }
-    }
+    )?;
+    let groups = based.groups;
+    round_lists::store_base(n, order, sizes, scores, wi, wf);
+    let weak = round_lists::find_weak(n, groups, order, sizes, scores, wi);
+    Ok(RoundStart {
+        groups,
+        weak: weak.groups,
+        items: weak.items,
+        source: based.source,
+    })
 }
 
 // Whether a list has fewer draws from place `at` on than are needed; a generator has all.
@@ -83,14 +85,14 @@ pub fn start_round(
     left: usize,
     wi: &mut [usize],
     wf: &mut [f64],
-) -> RoundStart
+) -> Result<RoundStart, Stop>
     requires { RoundInput book.now n m repeat draws.now src left wi.old × (1 ≤ left) × (left ≤ 32) × (4 * n ≤ length wi.old) × (left * n + 5 * (n * n) ≤ length wf.old) }
     ensures { RoundStarted (opening_of book.now n repeat (take m wi.old) src.at (own_given src draws.now book.now n repeat (take m wi.old))) n m left
         (own_moved src book.now n repeat (take m wi.old)) result wi.old wi.new wf.old wf.new }
 {
     let need = repeat * (draws::draws_for(m) as usize);
     if lacks(draws, src.at, src.seeded, need) {
-        return RoundStart::Stopped(Stop::Short(src.at));
+        return Err(Stop::Short(src.at));
     }
     let mut order = lists::buffer::<usize, 256>(0);
     let mut sizes = lists::buffer::<usize, 256>(0);

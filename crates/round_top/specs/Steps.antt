@@ -1,17 +1,17 @@
 -- What a round asks and leaves. Definitions only. Where things stand in the two lists of the run: crates/round_lists/specs/Steps.antt.
-use Rattle.std.specs.Prelude.{ℕ, ◌+◌, ◌*◌, ◌≤◌, ◌≡◌, List, length, drop, Float}
+use Rattle.std.specs.Prelude.{ℕ, ◌+◌, ◌*◌, ◌≤◌, ◌≡◌, List, Result, Ok, Err, length, drop, Float}
 use Rattle.partition.specs.Partition.{joined}
 use Rattle.partition.specs.Orders.{sizes_of}
 use Rattle.plusplus_seeded.specs.declared.Source.{Source}
 use Rattle.round.specs.Round.{Run, done, ended}
 use Rattle.round.specs.Steps.{RoundInput}
 use Rattle.round_top.specs.declared.Top.{Top}
-use Rattle.round_top.specs.declared.Top.TheVariants.{Done, Stopped}
+use Rattle.draws.specs.declared.Stop.{Stop}
 
 -- the answer of a round, and what it leaves in the outputs: a run that ended leaves them as they were
-abbrev pub top_of : Run → Top
-top_of (done s ms read rest) = Done (length s.groups) read
-top_of (ended s ms) = Stopped s
+abbrev pub top_of : Run → Result Top Stop
+top_of (done s ms read rest) = Ok (record { groups = length s.groups; read = read })
+top_of (ended s ms) = Err s
 
 abbrev pub order_after : Run → List ℕ → List ℕ
 order_after (done s ms read rest) old = joined s.groups
@@ -35,7 +35,7 @@ pub record Ready (book : List Float) (n repeats : ℕ) (draws : List ℕ) (src :
   pub space : left * n + 5 * (n * n) ≤ length wf
 
 -- what it leaves
-pub record RoundLeaves (r : Run) (n left : ℕ) (a : Top) (order order' sizes sizes' : List ℕ) (scores scores' : List Float) (wi wi' : List ℕ) (wf wf' : List Float) : Type 0 where
+pub record RoundLeaves (r : Run) (n left : ℕ) (a : Result Top Stop) (order order' sizes sizes' : List ℕ) (scores scores' : List Float) (wi wi' : List ℕ) (wf wf' : List Float) : Type 0 where
   pub answer_is : a ≡ top_of r
   pub ordered : order' ≡ order_after r order
   pub sized : sizes' ≡ sizes_after (length order) r sizes

@@ -9,13 +9,12 @@ ghost use Rattle.round_top.specs.Steps.{Ready, RoundLeaves};
 
 use draws::Stop;
 use plusplus_seeded::Source;
-use round::RoundStart;
 
-// How many groups, and the draws read; or what ends the run.
+// How many groups, and the draws read.
 #[derive(Drop)]
-pub enum Top {
-    Done(usize, usize),
-    Stopped(Stop),
+pub struct Top {
+    pub groups: usize,
+    pub read: usize,
 }
 
 // A round with `left` rounds left, on the rows at the front of `wi`. Its answer goes to `order`, `sizes` and `scores`, which have a place for each of
@@ -33,7 +32,7 @@ pub fn cluster_kmeans_top(
     scores: &mut [f64],
     wi: &mut [usize],
     wf: &mut [f64],
-) -> Top
+) -> Result<Top, Stop>
     requires { Ready book.now n repeat draws.now src left order.old sizes.old scores.old wi.old wf.old }
     ensures { RoundLeaves (round_of book.now n repeat left (take (length order.old) wi.old) src.at
         (round_given src draws.now book.now n repeat left (take (length order.old) wi.old))) n left result
@@ -41,48 +40,49 @@ pub fn cluster_kmeans_top(
         wi.old wi.new wf.old wf.new }
 {
     if left == 0 {
-        return Top::Stopped(Stop::Rounds);
+        return Err(Stop::Rounds);
     }
     let m = order.len();
-    match round::start_round(book, n, m, repeat, draws, src, left, &mut *wi, &mut *wf) {
-        RoundStart::Stopped(s) => Top::Stopped(s),
-        RoundStart::Base(groups, weak, w, after) => {
-            if weak <= 2 {
-                round_lists::keep(n, order, sizes, scores, &wi[..], &wf[..]);
-                return Top::Done(groups, after.at);
-            }
-            let below = 3 * n;
-            match cluster_kmeans_top(
-                book,
-                n,
-                repeat,
-                draws,
-                after,
-                left - 1,
-                &mut order[..w],
-                &mut sizes[..w],
-                &mut scores[..w],
-                &mut wi[below..],
-                &mut wf[n..],
-            ) {
-                Top::Stopped(t) => Top::Stopped(t),
-                Top::Done(inner, last) => {
-                    let g = round_end::end_round(
-                        book,
-                        n,
-                        left,
-                        groups,
-                        inner,
-                        w,
-                        order,
-                        sizes,
-                        scores,
-                        &wi[..],
-                        wf,
-                    );
-                    Top::Done(g, last)
-                }
-            }
-        }
+    let start = round::start_round(book, n, m, repeat, draws, src, left, &mut *wi, &mut *wf)?;
+    let groups = start.groups;
+    let w = start.items;
+    let after = start.source;
+    if start.weak <= 2 {
+        round_lists::keep(n, order, sizes, scores, &wi[..], &wf[..]);
+        return Ok(Top {
+            groups,
+            read: after.at,
+        });
     }
+    let below = 3 * n;
+    let inner = cluster_kmeans_top(
+        book,
+        n,
+        repeat,
+        draws,
+        after,
+        left - 1,
+        &mut order[..w],
+        &mut sizes[..w],
+        &mut scores[..w],
+        &mut wi[below..],
+        &mut wf[n..],
+    )?;
+    let g = round_end::end_round(
+        book,
+        n,
+        left,
+        groups,
+        inner.groups,
+        w,
+        order,
+        sizes,
+        scores,
+        &wi[..],
+        wf,
+    );
+    Ok(Top {
+        groups: g,
+        read: inner.read,
+    })
 }
