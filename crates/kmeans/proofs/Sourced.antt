@@ -1,4 +1,5 @@
 -- k-means by the draws of a source: what the answers of the calls say of the definition.
+use Rattle.std.specs.Prelude.{Ok, Err, Result}
 use Prim.Native.Nat.{ℕ, ◌+◌, ◌^◌, ◌<◌, ◌≤◌}
 use mathlib.Core.Path.{◌≡◌, refl, sym, ◌∙◌, ap, subst}
 use mathlib.Core.Bool.{true, false, cond, true≢false}
@@ -17,12 +18,9 @@ use Rattle.rng_std.specs.Seeds.{key_of}
 use Rattle.rng_std.proofs.Ranges.{word_below}
 use Rattle.plusplus.specs.Seeding.{seeding, SeededBy, MaySeed}
 use Rattle.draws.proofs.Counting.{turns_few}
-use Rattle.plusplus.specs.declared.Seeded.TheVariants as seeding
 use Rattle.plusplus.proofs.Same.{seeding_matrix}
 use Rattle.plusplus_seeded.specs.Seeded.{Made}
 use Rattle.plusplus_seeded.specs.declared.Source.{Source}
-use Rattle.plusplus_seeded.specs.declared.Supplied.{Supplied}
-use Rattle.plusplus_seeded.specs.declared.Supplied.TheVariants as supplied
 use Rattle.plusplus_seeded.specs.Sources.{words_by, given, moved_on, RngOf, seed_draws, seed_next, SuppliedBy}
 use Rattle.plusplus_seeded.proofs.Same.{seed_matrix}
 use Rattle.lloyd_pass.specs.declared.Ended.{Ended}
@@ -31,11 +29,11 @@ use Rattle.kmeans.specs.Steps.{ClusteredBy, LabelledBy, MayCluster, seed_given, 
 use Rattle.kmeans.specs.declared.Clustered.TheVariants as clustered
 use Rattle.kmeans.specs.declared.Labelled.TheVariants as labelled
 
-supplied_same : (R R' : Drawn (List ℕ)) (n n' : Source) (r : Supplied) (l : List ℕ) → R ≡ R' → n ≡ n' → SuppliedBy R n r l → SuppliedBy R' n' r l
+supplied_same : (R R' : Drawn (List ℕ)) (n n' : Source) (r : Result Source Stop) (l : List ℕ) → R ≡ R' → n ≡ n' → SuppliedBy R n r l → SuppliedBy R' n' r l
 supplied_same R R' n n' r l e h s = subst (λ (x : Source). SuppliedBy R' x r l) h (subst (λ (D : Drawn (List ℕ)). SuppliedBy D n r l) e s)
 
 -- the draws of a seeding on a table, for the matrix that it is
-pub supplied_matrix : (x : ℕ → ℕ → Float) (m k : ℕ) (src : Source) (draws : List ℕ) (r : Supplied) (l : List ℕ) {squares : List Float} → 0 < m → squares ≡ matrix_of (squared_at x m) m
+pub supplied_matrix : (x : ℕ → ℕ → Float) (m k : ℕ) (src : Source) (draws : List ℕ) (r : Result Source Stop) (l : List ℕ) {squares : List Float} → 0 < m → squares ≡ matrix_of (squared_at x m) m
     → SuppliedBy (seeding (table squares m) m k src.at (given src draws (seed_draws src (table squares m) m k))) (moved_on src (seeding_of k) (seed_next src (table squares m) m k)) r l
     → SuppliedBy (seeding (squared_at x m) m k src.at (seed_given x m k src draws)) (seed_moved x m k src) r l
 supplied_matrix x m k src draws r l {squares} z e s =
@@ -57,33 +55,33 @@ pub no_rng : {A : Type 0} → false ≡ true → A
 no_rng a = absurd (true≢false (sym a))
 
 -- what the answer of a seeding says, by the laws of one that takes its draws from a list
-pub supply_done : (R : Drawn (List ℕ)) {next n : Source} {cs : List ℕ} → SuppliedBy R next (supplied.Done n) cs → (n ≡ next) × SeededBy R 0 (seeding.Done 0) cs
+pub supply_done : (R : Drawn (List ℕ)) {next n : Source} {cs : List ℕ} → SuppliedBy R next (Ok n) cs → (n ≡ next) × SeededBy R 0 (seeding.Done 0) cs
 supply_done (drawn c rest) {next} {n} {cs} s =
-    let a : supplied.Done n ≡ supplied.Done next = s.answer_is in
+    let a : Ok n ≡ Ok next = s.answer_is in
     let e : n ≡ next = cc in
     (e, record { answer_is = refl; centres_are = s.centres_are })
 supply_done (refused p) {next} {n} {cs} s =
-    let a : supplied.Done n ≡ supplied.Stopped (DrawOutOfRange p) = s.answer_is in
+    let a : Ok n ≡ Err (DrawOutOfRange p) = s.answer_is in
     let z : ◌≡◌ {A = ℕ} 0 1 = cc in
     absurd (omega arith)
 
-pub seeded_done : (R : Drawn (List ℕ)) {next n : Source} {cs : List ℕ} → SuppliedBy R next (supplied.Done n) cs → SeededBy R next.at (seeding.Done n.at) cs
+pub seeded_done : (R : Drawn (List ℕ)) {next n : Source} {cs : List ℕ} → SuppliedBy R next (Ok n) cs → SeededBy R next.at (seeding.Done n.at) cs
 seeded_done (drawn c rest) {next} {n} {cs} s =
-    let a : supplied.Done n ≡ supplied.Done next = s.answer_is in
+    let a : Ok n ≡ Ok next = s.answer_is in
     let e : n ≡ next = cc in
     record { answer_is = rw e refl; centres_are = s.centres_are }
 seeded_done (refused p) {next} {n} {cs} s =
-    let a : supplied.Done n ≡ supplied.Stopped (DrawOutOfRange p) = s.answer_is in
+    let a : Ok n ≡ Err (DrawOutOfRange p) = s.answer_is in
     let z : ◌≡◌ {A = ℕ} 0 1 = cc in
     absurd (omega arith)
 
-pub seeded_stopped : (R : Drawn (List ℕ)) {next : Source} {at : ℕ} {w : Stop} {cs : List ℕ} → SuppliedBy R next (supplied.Stopped w) cs → SeededBy R at (seeding.Stopped w) cs
+pub seeded_stopped : (R : Drawn (List ℕ)) {next : Source} {at : ℕ} {w : Stop} {cs : List ℕ} → SuppliedBy R next (Err w) cs → SeededBy R at (seeding.Stopped w) cs
 seeded_stopped (drawn c rest) {next} {at} {w} {cs} s =
-    let a : supplied.Stopped w ≡ supplied.Done next = s.answer_is in
+    let a : Err w ≡ Ok next = s.answer_is in
     let z : ◌≡◌ {A = ℕ} 0 1 = cc in
     absurd (omega arith)
 seeded_stopped (refused p) {next} {at} {w} {cs} s =
-    let a : supplied.Stopped w ≡ supplied.Stopped (DrawOutOfRange p) = s.answer_is in
+    let a : Err w ≡ Err (DrawOutOfRange p) = s.answer_is in
     let e : w ≡ DrawOutOfRange p = cc in
     record { answer_is = ap seeding.Stopped e; centres_are = tt }
 
