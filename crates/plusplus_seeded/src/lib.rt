@@ -69,12 +69,17 @@ fn next_from(
     let count = draws.len();
     let total = plusplus_pick::sum_weights(weights, sums);
     let next = draw_all(rng, taken, total, m, draws);
-    let pick = match plusplus::centre_by_sums(squares, weights, sums, total, draws, 0, count) {
+    match plusplus::centre_by_sums(squares, weights, sums, total, draws, 0, count) {
         // never so: the generator's draws are in range
-        Err(_stop) => 0,
-        Ok(b) => b.pick,
-    };
-    Picked { pick, taken: next }
+        Err(_stop) => Picked {
+            pick: 0,
+            taken: next,
+        },
+        Ok(b) => Picked {
+            pick: b.pick,
+            taken: next,
+        },
+    }
 }
 
 // The centres behind the first. The weights are those with the first as centre. It answers how many words are then taken.

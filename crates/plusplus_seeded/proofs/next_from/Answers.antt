@@ -69,20 +69,20 @@ weights-are c =
     subst (λ (D : Drawn Trial). Weights (squared c) (items c) c.args.weights.now D c.centre_by_sums.new.weights)
     (ap (search-of c) (draws_are c) ∙ (fine c).1) c.centre_by_sums.ensures.weights
 
-pub returns-in-Stopped : goal.returns-in-Stopped
-returns-in-Stopped c =
-    let b = (fine (goal.at.returns-in-Stopped c).After-centre_by_sums).0 in
-    let s = c.in-Stopped.s in
-    let e : Err s ≡ Ok b = sym c.in-Stopped.is ∙ found (goal.at.returns-in-Stopped c).After-centre_by_sums in
+pub returns-in-Err : goal.returns-in-Err
+returns-in-Err c =
+    let b = (fine (goal.at.returns-in-Err c).After-centre_by_sums).0 in
+    let s = c.in-Err._stop in
+    let e : Err s ≡ Ok b = sym c.in-Err.is ∙ found (goal.at.returns-in-Err c).After-centre_by_sums in
     let z : ◌≡◌ {A = ℕ} 0 1 = cc in
     absurd (omega arith)
 
-pub returns-in-Best : goal.returns-in-Best
-returns-in-Best c =
-    let f = (goal.at.returns-in-Best c).After-centre_by_sums in
+pub returns-in-Ok : goal.returns-in-Ok
+returns-in-Ok c =
+    let f = (goal.at.returns-in-Ok c).After-centre_by_sums in
     let x = (fine f).0 in
-    let b = c.in-Best.b in
-    let e : Ok b ≡ Ok x = sym c.in-Best.is ∙ found f in
+    let b = c.in-Ok.b in
+    let e : Ok b ≡ Ok x = sym c.in-Ok.is ∙ found f in
     let d : b ≡ x = cc in
     let p : b.pick ≡ x.pick = ap (λ (y : Trial). y.pick) d in
     record {
