@@ -25,9 +25,7 @@ use Rattle.plusplus_seeded.specs.Sources.{words_by, given, moved_on, RngOf, seed
 use Rattle.plusplus_seeded.proofs.Same.{seed_matrix}
 use Rattle.lloyd_pass.specs.declared.Ended.{Ended}
 use Rattle.kmeans.specs.Clustering.{Grouped}
-use Rattle.kmeans.specs.Steps.{ClusteredBy, LabelledBy, MayCluster, seed_given, seed_moved}
-use Rattle.kmeans.specs.declared.Clustered.TheVariants as clustered
-use Rattle.kmeans.specs.declared.Labelled.TheVariants as labelled
+use Rattle.kmeans.specs.Steps.{clustered, labelled, ClusteredBy, LabelledBy, MayCluster, seed_given, seed_moved}
 
 supplied_same : (R R' : Drawn (List ℕ)) (n n' : Source) (r : Result Source Stop) (l : List ℕ) → R ≡ R' → n ≡ n' → SuppliedBy R n r l → SuppliedBy R' n' r l
 supplied_same R R' n n' r l e h s = subst (λ (x : Source). SuppliedBy R' x r l) h (subst (λ (D : Drawn (List ℕ)). SuppliedBy D n r l) e s)
@@ -55,7 +53,7 @@ pub no_rng : {A : Type 0} → false ≡ true → A
 no_rng a = absurd (true≢false (sym a))
 
 -- what the answer of a seeding says, by the laws of one that takes its draws from a list
-pub supply_done : (R : Drawn (List ℕ)) {next n : Source} {cs : List ℕ} → SuppliedBy R next (Ok n) cs → (n ≡ next) × SeededBy R 0 (seeding.Done 0) cs
+pub supply_done : (R : Drawn (List ℕ)) {next n : Source} {cs : List ℕ} → SuppliedBy R next (Ok n) cs → (n ≡ next) × SeededBy R 0 (Ok 0) cs
 supply_done (drawn c rest) {next} {n} {cs} s =
     let a : Ok n ≡ Ok next = s.answer_is in
     let e : n ≡ next = cc in
@@ -65,7 +63,7 @@ supply_done (refused p) {next} {n} {cs} s =
     let z : ◌≡◌ {A = ℕ} 0 1 = cc in
     absurd (omega arith)
 
-pub seeded_done : (R : Drawn (List ℕ)) {next n : Source} {cs : List ℕ} → SuppliedBy R next (Ok n) cs → SeededBy R next.at (seeding.Done n.at) cs
+pub seeded_done : (R : Drawn (List ℕ)) {next n : Source} {cs : List ℕ} → SuppliedBy R next (Ok n) cs → SeededBy R next.at (Ok n.at) cs
 seeded_done (drawn c rest) {next} {n} {cs} s =
     let a : Ok n ≡ Ok next = s.answer_is in
     let e : n ≡ next = cc in
@@ -75,7 +73,7 @@ seeded_done (refused p) {next} {n} {cs} s =
     let z : ◌≡◌ {A = ℕ} 0 1 = cc in
     absurd (omega arith)
 
-pub seeded_stopped : (R : Drawn (List ℕ)) {next : Source} {at : ℕ} {w : Stop} {cs : List ℕ} → SuppliedBy R next (Err w) cs → SeededBy R at (seeding.Stopped w) cs
+pub seeded_stopped : (R : Drawn (List ℕ)) {next : Source} {at : ℕ} {w : Stop} {cs : List ℕ} → SuppliedBy R next (Err w) cs → SeededBy R at (Err w) cs
 seeded_stopped (drawn c rest) {next} {at} {w} {cs} s =
     let a : Err w ≡ Ok next = s.answer_is in
     let z : ◌≡◌ {A = ℕ} 0 1 = cc in
@@ -83,49 +81,49 @@ seeded_stopped (drawn c rest) {next} {at} {w} {cs} s =
 seeded_stopped (refused p) {next} {at} {w} {cs} s =
     let a : Err w ≡ Err (DrawOutOfRange p) = s.answer_is in
     let e : w ≡ DrawOutOfRange p = cc in
-    record { answer_is = ap seeding.Stopped e; centres_are = tt }
+    record { answer_is = ap Err e; centres_are = tt }
 
 -- what k-means answers, with a source and with a place
-pub labelled_done : (D : Drawn Grouped) {next n : Source} {old new : List ℕ} {e : Ended} → n ≡ next → ClusteredBy D 0 old (clustered.Done 0 e) new → LabelledBy D next old (labelled.Done n e) new
+pub labelled_done : (D : Drawn Grouped) {next n : Source} {old new : List ℕ} {e : Ended} → n ≡ next → ClusteredBy D 0 old (clustered 0 e) new → LabelledBy D next old (labelled n e) new
 labelled_done (drawn g rest) {next} {n} {old} {new} {e} h s =
-    let a : clustered.Done 0 e ≡ clustered.Done 0 g.ended = s.answer_is in
+    let a : clustered 0 e ≡ clustered 0 g.ended = s.answer_is in
     let v : e ≡ g.ended = cc in
     record { answer_is = rw (h, v) refl; labels_are = s.labels_are }
 labelled_done (refused p) {next} {n} {old} {new} {e} h s =
-    let a : clustered.Done 0 e ≡ clustered.Stopped (DrawOutOfRange p) = s.answer_is in
+    let a : clustered 0 e ≡ Err (DrawOutOfRange p) = s.answer_is in
     let z : ◌≡◌ {A = ℕ} 0 1 = cc in
     absurd (omega arith)
 
-pub labelled_stopped : (D : Drawn Grouped) {next : Source} {w : Stop} {old new : List ℕ} → ClusteredBy D 0 old (clustered.Stopped w) new → LabelledBy D next old (labelled.Stopped w) new
+pub labelled_stopped : (D : Drawn Grouped) {next : Source} {w : Stop} {old new : List ℕ} → ClusteredBy D 0 old (Err w) new → LabelledBy D next old (Err w) new
 labelled_stopped (drawn g rest) {next} {w} {old} {new} s =
-    let a : clustered.Stopped w ≡ clustered.Done 0 g.ended = s.answer_is in
+    let a : Err w ≡ clustered 0 g.ended = s.answer_is in
     let z : ◌≡◌ {A = ℕ} 0 1 = cc in
     absurd (omega arith)
 labelled_stopped (refused p) {next} {w} {old} {new} s =
-    let a : clustered.Stopped w ≡ clustered.Stopped (DrawOutOfRange p) = s.answer_is in
+    let a : Err w ≡ Err (DrawOutOfRange p) = s.answer_is in
     let e : w ≡ DrawOutOfRange p = cc in
-    record { answer_is = ap labelled.Stopped e; labels_are = s.labels_are }
+    record { answer_is = ap Err e; labels_are = s.labels_are }
 
-pub clustered_done : (D : Drawn Grouped) {next n : Source} {old new : List ℕ} {e : Ended} → LabelledBy D next old (labelled.Done n e) new → ClusteredBy D next.at old (clustered.Done n.at e) new
+pub clustered_done : (D : Drawn Grouped) {next n : Source} {old new : List ℕ} {e : Ended} → LabelledBy D next old (labelled n e) new → ClusteredBy D next.at old (clustered n.at e) new
 clustered_done (drawn g rest) {next} {n} {old} {new} {e} s =
-    let a : labelled.Done n e ≡ labelled.Done next g.ended = s.answer_is in
+    let a : labelled n e ≡ labelled next g.ended = s.answer_is in
     let u : n ≡ next = cc in
     let v : e ≡ g.ended = cc in
     record { answer_is = rw (u, v) refl; labels_are = s.labels_are }
 clustered_done (refused p) {next} {n} {old} {new} {e} s =
-    let a : labelled.Done n e ≡ labelled.Stopped (DrawOutOfRange p) = s.answer_is in
+    let a : labelled n e ≡ Err (DrawOutOfRange p) = s.answer_is in
     let z : ◌≡◌ {A = ℕ} 0 1 = cc in
     absurd (omega arith)
 
-pub clustered_stopped : (D : Drawn Grouped) {next : Source} {at : ℕ} {w : Stop} {old new : List ℕ} → LabelledBy D next old (labelled.Stopped w) new → ClusteredBy D at old (clustered.Stopped w) new
+pub clustered_stopped : (D : Drawn Grouped) {next : Source} {at : ℕ} {w : Stop} {old new : List ℕ} → LabelledBy D next old (Err w) new → ClusteredBy D at old (Err w) new
 clustered_stopped (drawn g rest) {next} {at} {w} {old} {new} s =
-    let a : labelled.Stopped w ≡ labelled.Done next g.ended = s.answer_is in
+    let a : Err w ≡ labelled next g.ended = s.answer_is in
     let z : ◌≡◌ {A = ℕ} 0 1 = cc in
     absurd (omega arith)
 clustered_stopped (refused p) {next} {at} {w} {old} {new} s =
-    let a : labelled.Stopped w ≡ labelled.Stopped (DrawOutOfRange p) = s.answer_is in
+    let a : Err w ≡ Err (DrawOutOfRange p) = s.answer_is in
     let e : w ≡ DrawOutOfRange p = cc in
-    record { answer_is = ap clustered.Stopped e; labels_are = s.labels_are }
+    record { answer_is = ap Err e; labels_are = s.labels_are }
 
 -- a list has the draws of one seeding
 pub list_supplies : (m k : ℕ) (draws : List ℕ) (at : ℕ) → m ≤ 256 → length draws < 2 ^ 64 → MaySeed m k draws at → MayCluster m k draws (record { at = at; seeded = false; seed = 0; taken = 0 })

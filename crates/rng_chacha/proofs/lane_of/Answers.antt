@@ -5,7 +5,7 @@ use Rattle.rng_chacha.proofs.lane_of.Goals as goal
 
 pub loop-j-init : goal.loop-j-init
 unfolding writes
-loop-j-init c = (omega arith, c.requires.0, c.requires.1, c.one_state-t.ensures, refl)
+loop-j-init c = (omega arith, c.requires.0, c.requires.1, c.buffer-t.ensures, refl)
 
 pub loop-j-preserved : goal.loop-j-preserved
 loop-j-preserved c =
@@ -14,4 +14,4 @@ loop-j-preserved c =
 
 pub returns : goal.returns
 unfolding lane_of
-returns c = writes_done 0 _ _ _ _ c.loop-j.invariant.4 (omega (arith, c.loop-j.invariant.0)) c.one_state-t.ensures
+returns c = writes_done 0 _ _ _ _ c.loop-j.invariant.4 (omega (arith, c.loop-j.invariant.0)) c.buffer-t.ensures
