@@ -1,4 +1,5 @@
 -- Laws of the steps of a call: what the rounds ask of the lists, and what is left of them once the working lists are wiped.
+use Rattle.std.specs.Prelude.{Ok, Err}
 use Prim.Native.Nat.{ℕ, ◌+◌, ◌*◌, ◌<◌, ◌≤◌, zero-le}
 use mathlib.Core.Path.{◌≡◌, refl, sym, ◌∙◌, ap, subst}
 use mathlib.Core.Bool.{Bool}
@@ -15,11 +16,10 @@ use Rattle.refusals.specs.Table.{work_doubles, work_numbers, wiped, wiped_number
 use Rattle.distance.specs.Distance.{cell_through}
 use Rattle.draws.specs.declared.Stop.{Stop}
 use Rattle.round_top.specs.declared.Top.{Top}
-use Rattle.round_top.specs.declared.Top.TheVariants.{Done, Stopped as Ended}
 use Rattle.plusplus_seeded.specs.declared.Source.{Source}
 use Rattle.round.specs.Round.{Run, done, ended, round_of}
 use Rattle.round.specs.Made.{round_given}
-use Rattle.round_top.specs.Steps.{Ready, RoundLeaves, top_of, order_after, sizes_after, scores_after}
+use Rattle.round_top.specs.Steps.{top, Ready, RoundLeaves, top_of, order_after, sizes_after, scores_after}
 use Rattle.round.proofs.Runs.{Whole}
 use Rattle.onc_answers.specs.declared.Onc.TheVariants.{Grouped, Stopped}
 use Rattle.onc_answers.specs.Answers.{answer_of}
@@ -114,18 +114,18 @@ module _ (book : List Float) (n : ℕ) (r : Run) (l : Lists) {a : Top} {order si
 
     pub left_stopped : (s : Stop) → a ≡ Ended s
         → ◌≡◌ {A = Outcome}
-        (record { answer = answer_of (Stopped s); lists = record { order = order; sizes = sizes; scores = scores; ordered = l.ordered; floats = floats'; numbers = wi' } })
+        (record { answer = answer_of (Err s); lists = record { order = order; sizes = sizes; scores = scores; ordered = l.ordered; floats = floats'; numbers = wi' } })
         (ran book n r l)
     left_stopped s is = by r h.answer_is h.ordered h.sized h.scored
       where
         by : (r : Run) → a ≡ top_of r → order ≡ order_after r l.order → sizes ≡ sizes_after n r l.sizes → scores ≡ scores_after r l.scores
             → ◌≡◌ {A = Outcome}
-            (record { answer = answer_of (Stopped s); lists = record { order = order; sizes = sizes; scores = scores; ordered = l.ordered; floats = floats'; numbers = wi' } })
+            (record { answer = answer_of (Err s); lists = record { order = order; sizes = sizes; scores = scores; ordered = l.ordered; floats = floats'; numbers = wi' } })
             (ran book n r l)
         by (done t ms read rest) ea eo es ec = let z : ◌≡◌ {A = ℕ} 0 1 = cc in let y : ⊥ = omega arith in absurd y
         by (ended q ms) ea eo es ec = let z : q ≡ s = cc in rw (eo, es, ec, floats_wiped, numbers_wiped, z) refl
 
-    pub left_grouped : (groups read : ℕ) {ordered : List Float} → a ≡ Done groups read → length order ≡ n → ordered ≡ matrix_of (cell_through book n order) (length order)
+    pub left_grouped : (groups read : ℕ) {ordered : List Float} → a ≡ top groups read → length order ≡ n → ordered ≡ matrix_of (cell_through book n order) (length order)
         → ◌≡◌ {A = Outcome}
         (record { answer = answer_of (Grouped groups read); lists = record { order = order; sizes = sizes; scores = scores; ordered = ordered; floats = floats'; numbers = wi' } })
         (ran book n r l)
@@ -145,7 +145,7 @@ module _ (book : List Float) (n : ℕ) (r : Run) (l : Lists) {a : Top} {order si
             rw (matrix, eo, es, ec, floats_wiped, numbers_wiped, z, z') refl
 
   -- each number of the order is a name
-  pub order_below : (groups read : ℕ) → a ≡ Done groups read → Whole n r → (j : ℕ) → j < length order → numbers order j < n
+  pub order_below : (groups read : ℕ) → a ≡ top groups read → Whole n r → (j : ℕ) → j < length order → numbers order j < n
   order_below groups read is = by r h.answer_is h.ordered
     where
       by : (r : Run) → a ≡ top_of r → order ≡ order_after r l.order → Whole n r → (j : ℕ) → j < length order → numbers order j < n
