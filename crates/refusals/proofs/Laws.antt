@@ -7,11 +7,11 @@ use mathlib.Core.Logic.{by_cases}
 use native.Mathlib.Omega.{arith}
 use native.Mathlib.Decide.{dec_lt}
 use borrow.Author.Tests.{lt-ltb, ltb-false, eqb-true, eq-eqb, ne_eqb}
+use Rattle.std.proofs.Common.{Ok, Err}
 use lib.Dec.{eqb, ltb}
 use lib.Ieee.{Float}
-use Rattle.refusals.specs.Table.{number_of, refusal_of, Refusal, none, refused, whenever, unless, refusal, filled, worked, wiped}
-use Rattle.refusals.specs.declared.Answer.{Answer}
-use Rattle.refusals.specs.declared.Answer.TheVariants.{Done, InvalidCorrelationMatrix, TooLarge, CellCount, ListLength, OutOfRange}
+use Rattle.refusals.specs.Table.{Answer, number_of, refusal_of, Refusal, none, refused, whenever, unless, refusal, filled, worked, wiped}
+use Rattle.refusals.specs.declared.Cause.TheVariants.{InvalidCorrelationMatrix, TooLarge, CellCount, ListLength, OutOfRange}
 use Rattle.lists.proofs.Tests.{impossible, neither, or-true}
 
 -- nothing is refused: the test of each row failed (or held), and nothing is refused below it
@@ -86,9 +86,9 @@ passed a is h = rw (← is) (eq-eqb (number_of a) 0 h)
 
 -- and is given no place
 pub done_none : (a : Answer) → number_of a ≡ 0 → refusal_of a ≡ none
-done_none Done h = refl
-done_none InvalidCorrelationMatrix h = absurd (omega arith)
-done_none TooLarge h = absurd (omega arith)
-done_none CellCount h = absurd (omega arith)
-done_none ListLength h = absurd (omega arith)
-done_none (OutOfRange k) h = absurd (omega arith)
+done_none (Ok done) h = refl
+done_none (Err InvalidCorrelationMatrix) h = absurd (omega arith)
+done_none (Err TooLarge) h = absurd (omega arith)
+done_none (Err CellCount) h = absurd (omega arith)
+done_none (Err ListLength) h = absurd (omega arith)
+done_none (Err (OutOfRange k)) h = absurd (omega arith)
