@@ -46,30 +46,21 @@ pub fn place_of(a: Answer) -> usize
 pub fn is_square(length: usize, m: usize) -> bool
     ensures { (m ≤ 256 → result ≡ eqb length (m * m)) × (256 < m → result ≡ false) }
 {
-    if m > 256 {
-        return false;
-    }
-    length == m * m
+    m <= 256 && length == m * m
 }
 
 // Whether a working list of doubles has room for m names; false for more than 256, where 4 comes first.
 pub fn has_room(length: usize, m: usize) -> bool
     ensures { (m ≤ 256 → result ≡ leb (work_doubles m) length) × (256 < m → result ≡ false) }
 {
-    if m > 256 {
-        return false;
-    }
-    8 * (m * m) + 256 * m <= length
+    m <= 256 && 8 * (m * m) + 256 * m <= length
 }
 
 // The same of a working list of whole numbers.
 pub fn has_numbers(length: usize, m: usize) -> bool
     ensures { (m ≤ 256 → result ≡ leb (work_numbers m) length) × (256 < m → result ≡ false) }
 {
-    if m > 256 {
-        return false;
-    }
-    320 * m <= length
+    m <= 256 && 320 * m <= length
 }
 
 // Sets the front part of a working list of doubles for m names to zero. Inner form.
