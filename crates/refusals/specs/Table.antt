@@ -1,25 +1,29 @@
 -- The rows of the table of refusals that concern a call on lent lists, and what such a call leaves in its lists. Definitions only.
-use Rattle.std.specs.Prelude.{ℕ, ◌+◌, ◌*◌, Bool, cond, ◌||◌, List, ◌++◌, eqb, ltb, drop, replicate, Float}
+use Rattle.std.specs.Prelude.{ℕ, ◌+◌, ◌*◌, Bool, cond, ◌||◌, List, ◌++◌, eqb, ltb, drop, replicate, Result, Ok, Err, Float}
 use Rattle.lists.specs.Sums.{zero64}
-use Rattle.refusals.specs.declared.Answer.{Answer}
-use Rattle.refusals.specs.declared.Answer.TheVariants.{Done, InvalidCorrelationMatrix, TooLarge, CellCount, ListLength, OutOfRange}
+use Rattle.refusals.specs.declared.Cause.{Cause}
+use Rattle.refusals.specs.declared.Cause.TheVariants.{InvalidCorrelationMatrix, TooLarge, CellCount, ListLength, OutOfRange}
+
+-- what a call answers that gives no number: done, or why not
+abbrev pub Answer : Type 0
+Answer = Result (Unit {0}) Cause
 
 -- the table's number for each answer, 0 where nothing is refused, and its place, 0 where the table names none
 abbrev pub number_of : Answer → ℕ
-number_of Done = 0
-number_of InvalidCorrelationMatrix = 2
-number_of TooLarge = 4
-number_of CellCount = 5
-number_of ListLength = 6
-number_of (OutOfRange k) = 10
+number_of (Ok done) = 0
+number_of (Err InvalidCorrelationMatrix) = 2
+number_of (Err TooLarge) = 4
+number_of (Err CellCount) = 5
+number_of (Err ListLength) = 6
+number_of (Err (OutOfRange k)) = 10
 
 abbrev pub place_of : Answer → ℕ
-place_of Done = 0
-place_of InvalidCorrelationMatrix = 0
-place_of TooLarge = 0
-place_of CellCount = 0
-place_of ListLength = 0
-place_of (OutOfRange k) = k
+place_of (Ok done) = 0
+place_of (Err InvalidCorrelationMatrix) = 0
+place_of (Err TooLarge) = 0
+place_of (Err CellCount) = 0
+place_of (Err ListLength) = 0
+place_of (Err (OutOfRange k)) = k
 
 -- a refusal as the table gives it: number and place; number 0 stands for a call that is not refused
 pub record Refusal : Type 0 where

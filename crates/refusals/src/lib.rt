@@ -5,10 +5,9 @@
 ghost use Rattle.std.specs.Prelude.{◌≡◌, false, ◌≤◌, ◌<◌, ◌*◌, leb, eqb, length};
 ghost use Rattle.refusals.specs.Table.{number_of, place_of, refusal_of, refusal, work_doubles, wiped, work_numbers};
 
-// Done, or the first row of the table that applies.
+// The first row of the table that applies.
 #[derive(Clone, Copy)]
-pub enum Answer {
-    Done,
+pub enum Cause {
     InvalidCorrelationMatrix,
     TooLarge,
     CellCount,
@@ -16,17 +15,20 @@ pub enum Answer {
     OutOfRange(usize),
 }
 
+// What a call answers that gives no number: done, or why not.
+pub type Answer = Result<(), Cause>;
+
 // The table's number; 0 where nothing is refused.
 pub fn number_of(a: Answer) -> usize
     ensures { result ≡ number_of a }
 {
     match a {
-        Answer::Done => 0,
-        Answer::InvalidCorrelationMatrix => 2,
-        Answer::TooLarge => 4,
-        Answer::CellCount => 5,
-        Answer::ListLength => 6,
-        Answer::OutOfRange(_k) => 10,
+        Ok(()) => 0,
+        Err(Cause::InvalidCorrelationMatrix) => 2,
+        Err(Cause::TooLarge) => 4,
+        Err(Cause::CellCount) => 5,
+        Err(Cause::ListLength) => 6,
+        Err(Cause::OutOfRange(_k)) => 10,
     }
 }
 
@@ -35,12 +37,8 @@ pub fn place_of(a: Answer) -> usize
     ensures { result ≡ place_of a }
 {
     match a {
-        Answer::Done => 0,
-        Answer::InvalidCorrelationMatrix => 0,
-        Answer::TooLarge => 0,
-        Answer::CellCount => 0,
-        Answer::ListLength => 0,
-        Answer::OutOfRange(k) => k,
+        Err(Cause::OutOfRange(k)) => k,
+        _ => 0,
     }
 }
 
@@ -48,30 +46,21 @@ pub fn place_of(a: Answer) -> usize
 pub fn is_square(length: usize, m: usize) -> bool
     ensures { (m ≤ 256 → result ≡ eqb length (m * m)) × (256 < m → result ≡ false) }
 {
-    if m > 256 {
-        return false;
-    }
-    length == m * m
+    m <= 256 && length == m * m
 }
 
 // Whether a working list of doubles has room for m names; false for more than 256, where 4 comes first.
 pub fn has_room(length: usize, m: usize) -> bool
     ensures { (m ≤ 256 → result ≡ leb (work_doubles m) length) × (256 < m → result ≡ false) }
 {
-    if m > 256 {
-        return false;
-    }
-    8 * (m * m) + 256 * m <= length
+    m <= 256 && 8 * (m * m) + 256 * m <= length
 }
 
 // The same of a working list of whole numbers.
 pub fn has_numbers(length: usize, m: usize) -> bool
     ensures { (m ≤ 256 → result ≡ leb (work_numbers m) length) × (256 < m → result ≡ false) }
 {
-    if m > 256 {
-        return false;
-    }
-    320 * m <= length
+    m <= 256 && 320 * m <= length
 }
 
 // Sets the front part of a working list of doubles for m names to zero. Inner form.
@@ -85,29 +74,24 @@ pub fn wipe_doubles(m: usize, floats: &mut [f64])
 
 // The first row that applies: `cells` cells of a book of n columns, of which m rows are read, other lists that fit or
 // not, and the place of the first bad number among `count`.
+#[tactic(auto, using(std::proofs::lemmas::Bool::Decides::nat_tests), unfolding(crate::specs::Table::refusal, crate::specs::Table::whenever, crate::specs::Table::unless))]
 pub fn check(cells: usize, n: usize, m: usize, fits: bool, bad: usize, count: usize) -> Answer
     ensures { refusal_of result ≡ refusal cells n m fits bad count }
 {
-    if n < 2 {
-        return Answer::InvalidCorrelationMatrix;
+    if n < 2 || m < 2 {
+        return Err(Cause::InvalidCorrelationMatrix);
     }
-    if m < 2 {
-        return Answer::InvalidCorrelationMatrix;
-    }
-    if n > 256 {
-        return Answer::TooLarge;
-    }
-    if m > 256 {
-        return Answer::TooLarge;
+    if n > 256 || m > 256 {
+        return Err(Cause::TooLarge);
     }
     if cells != n * n {
-        return Answer::CellCount;
+        return Err(Cause::CellCount);
     }
     if !fits {
-        return Answer::ListLength;
+        return Err(Cause::ListLength);
     }
     if bad < count {
-        return Answer::OutOfRange(bad);
+        return Err(Cause::OutOfRange(bad));
     }
-    Answer::Done
+    Ok(())
 }
