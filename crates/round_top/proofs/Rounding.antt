@@ -1,5 +1,5 @@
 -- `cluster_kmeans_top`, in plain lists: from what its calls leave to what it ensures.
-use Rattle.std.specs.Prelude.{Ok, Err}
+use Rattle.std.specs.Prelude.{Result, Ok, Err}
 use Prim.Native.Nat.{ℕ, zero, suc, ◌+◌, ◌-◌, ◌*◌, ◌<◌, ◌≤◌}
 use mathlib.Core.Path.{◌≡◌, refl, sym, ◌∙◌, ap, subst}
 use mathlib.Core.List.{List, [], ◌∷◌, ◌++◌, map}
@@ -283,7 +283,7 @@ module _ (book : List Float) (n repeats : ℕ) (draws : List ℕ) (src : Source)
               ∙ ap (λ (x : ℕ). after (round_of book n repeats (left - 1) (take x wi₂) a.at (round_given a draws book n repeats (left - 1) (take x wi₂)))) (sym in_len)
 
           -- the inner round has come back
-          module _ (b : Top) (lo lz : List ℕ) (ls : List Float) (wi₃ : List ℕ) (wf₃ : List Float)
+          module _ (b : Result Top Stop) (lo lz : List ℕ) (ls : List Float) (wi₃ : List ℕ) (wf₃ : List Float)
               (I : RoundLeaves inner n (left - 1) b (take w order) lo (take w sizes) lz (take w scores) ls wi₂ wi₃ wf₂ wf₃)
               (len-order : length lo ≡ length (take w order)) (len-sizes : length lz ≡ length (take w sizes)) (len-scores : length ls ≡ length (take w scores))
               (len-numbers : length wi₃ ≡ length wi₂) (len-doubles : length wf₃ ≡ length wf₂) where
