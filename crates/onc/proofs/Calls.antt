@@ -8,7 +8,9 @@ use lib.Dec.{eqb}
 use lib.ListN.{length}
 use lib.Ieee.{Float}
 use Rattle.refusals.specs.Table.{Refusal}
+use Rattle.draws.specs.declared.Stop.{Stop}
 use Rattle.draws.specs.declared.Stop.TheVariants.{Rounds, Short, DrawOutOfRange, ClusteringFailed}
+use Rattle.draws.specs.Stops.{stop_number}
 use Rattle.partition.specs.Partition.{has}
 use Rattle.round.specs.Round.{Run, done, ended, round_of}
 use Rattle.certain_runs.specs.Certain.{CertainRun}
