@@ -1,24 +1,41 @@
 -- What a k-means leaf knows once nothing is refused, and what its lists are, refused or not.
 use Prim.Native.Nat.{ℕ, ◌≤◌, ◌*◌}
-use mathlib.Core.Path.{◌≡◌, refl, sym, ◌∙◌}
+use mathlib.Core.Path.{◌≡◌, refl, sym, ◌∙◌, ap}
 use mathlib.Core.Bool.{Bool, true, false, cond, ◌||◌}
 use mathlib.Core.List.{List}
 use borrow.Author.Tests.{ltb-false, eqb-true, leb-true, ne_eqb}
 use lib.Dec.{eqb, ltb, leb}
 use lib.Ieee.{Float}
 use Rattle.refusals.specs.Table as table
-use Rattle.refusals.specs.Table.{Refusal, none, or_else, refusal, work_doubles, wiped, work_numbers, wiped_numbers}
-use Rattle.refusals.specs.declared.Answer.{Answer}
+use Rattle.refusals.specs.Table.{Answer, Refusal, none, or_else, refusal, work_doubles, wiped, work_numbers, wiped_numbers}
+use Rattle.std.specs.Prelude.{Result, Err}
+use Rattle.refusals.specs.declared.Cause.{Cause}
+use Rattle.refusals.specs.declared.Cause.TheVariants.{InvalidCorrelationMatrix, TooLarge, CellCount, ListLength, OutOfRange}
 use Rattle.refusals.proofs.Laws.{when_none, accepted, fits_asked, passed}
-use Rattle.kmeans_answers.specs.declared.Kmeans.{Kmeans}
-use Rattle.kmeans_answers.specs.Answers.{number_of, refusal_of, read_of}
+use Rattle.kmeans_answers.specs.declared.KmeansError.{KmeansError}
+use Rattle.kmeans_answers.specs.Answers.{error_of, number_of, refusal_of, read_of}
 use Rattle.kmeans_answers.specs.Leaf.{leaf_refusal, lists_fit, Ran, leaf_of}
 use Rattle.lists.proofs.Tests.{impossible, both, neither}
 
--- a refusal of the rows above stands
-pub above : (a : Answer) {q : Refusal} (below : Refusal) → table.refusal_of a ≡ q → (table.number_of a ≡ 0 → ⊥) → table.refusal_of a ≡ or_else q below
+-- a refusal of the common checks keeps its number and its place, and is one
+same_row : (T : Type 0) (c : Cause) → refusal_of {T = T} (Err (error_of c)) ≡ table.refusal_of (Err c)
+same_row T InvalidCorrelationMatrix = refl
+same_row T TooLarge = refl
+same_row T CellCount = refl
+same_row T ListLength = refl
+same_row T (OutOfRange p) = refl
+
+some_row : (c : Cause) → eqb (table.number_of (Err c)) 0 ≡ false
+some_row InvalidCorrelationMatrix = refl
+some_row TooLarge = refl
+some_row CellCount = refl
+some_row ListLength = refl
+some_row (OutOfRange p) = refl
+
+-- so a refusal of the rows above stands
+pub above : {T : Type 0} (a : Result T KmeansError) (c : Cause) {q : Refusal} (below : Refusal) → a ≡ Err (error_of c) → table.refusal_of (Err c) ≡ q → refusal_of a ≡ or_else q below
 unfolding or_else
-above a below is h = rw (← is, ne_eqb (table.number_of a) 0 h)
+above {T} a c below e is = ap refusal_of e ∙ (same_row T c ∙ rw (← is, some_row c))
 
 -- where none of them applies the rows below decide
 split : (t : Bool) (q below : Refusal) → eqb q.number 0 ≡ t → eqb (cond t below q).number 0 ≡ true → (t ≡ true) × (eqb below.number 0 ≡ true)
@@ -83,7 +100,7 @@ sized n out size floats numbers h =
     }
 
 -- the record of a leaf that is refused before it starts, and of one that ran
-module _ (a : Kmeans) (q : Refusal) (n : ℕ) (ran : Ran) (out : List ℕ) (floats : List Float) (numbers : List ℕ) where
+module _ (a : Result ℕ KmeansError) (q : Refusal) (n : ℕ) (ran : Ran) (out : List ℕ) (floats : List Float) (numbers : List ℕ) where
   pub not_started : refusal_of a ≡ q → read_of a ≡ 0 → (number_of a ≡ 0 → ⊥)
       → record { answer = refusal_of a; read = read_of a; out = out; floats = floats; numbers = numbers } ≡ leaf_of q n ran out floats numbers
   unfolding leaf_of

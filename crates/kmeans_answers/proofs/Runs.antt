@@ -13,14 +13,15 @@ use Rattle.lists.proofs.Parts.{drop_behind}
 use Rattle.refusals.specs.Table.{Refusal, work_doubles, wiped}
 use Rattle.draws.specs.Draws.{Drawn}
 use Rattle.draws.specs.declared.Stop.TheVariants.{Short}
-use Rattle.kmeans_answers.specs.declared.Kmeans.{Kmeans}
-use Rattle.kmeans_answers.specs.declared.Kmeans.TheVariants.{Stopped}
+use Rattle.std.specs.Prelude.{Result, Err}
+use Rattle.kmeans_answers.specs.declared.KmeansError.{KmeansError}
+use Rattle.kmeans_answers.specs.declared.KmeansError.TheVariants.{Stopped}
 use Rattle.kmeans_answers.specs.Answers.{number_of, refusal_of, read_of}
 use Rattle.kmeans_answers.specs.Leaf.{Points, Ran, took_of, ran_of, leaf_refusal, lists_fit}
 use Rattle.kmeans_answers.proofs.Laws.{Started, started, Sized, sized, fits_in}
 
 -- what a leaf that has started answers
-abbrev pub ran : Kmeans → List ℕ → Ran
+abbrev pub ran : Result ℕ KmeansError → List ℕ → Ran
 ran a out = record { answer = refusal_of a; read = read_of a; out = out }
 
 -- draws taken from the front, as the definition counts them
@@ -29,7 +30,7 @@ counted_back n ds h = simp length-drop (omega arith)
 
 -- fewer draws than the leaf needs, or enough
 module _ (need : ℕ) (ds : List ℕ) (d : Drawn (List ℕ)) (old : List ℕ) where
-  pub too_few : ltb (length ds) need ≡ true → ran (Stopped (Short 0)) old ≡ ran_of need ds d old
+  pub too_few : ltb (length ds) need ≡ true → ran (Err (Stopped (Short 0))) old ≡ ran_of need ds d old
   unfolding ran_of
   too_few h = rw h
 
@@ -53,7 +54,7 @@ pub wiped_back : (n : ℕ) (a b : List Float) {c : List Float} → c ≡ wiped n
 wiped_back n a b e f = e ∙ ap (λ (x : List Float). replicate (work_doubles n) zero64 ++ x) f
 
 -- what a leaf knows when it is not refused, by its own test whether the lists fit
-module _ (asked : Kmeans) (cells n k out size floats numbers bad count : ℕ) {fits : Bool} (f : n ≤ 256 → fits ≡ lists_fit n out size floats numbers)
+module _ {T : Type 0} (asked : Result T KmeansError) (cells n k out size floats numbers bad count : ℕ) {fits : Bool} (f : n ≤ 256 → fits ≡ lists_fit n out size floats numbers)
     (is : refusal_of asked ≡ leaf_refusal cells n fits k bad count) where
   pub asked_is : refusal_of asked ≡ leaf_refusal cells n (lists_fit n out size floats numbers) k bad count
   asked_is = is ∙ fits_in cells n fits (lists_fit n out size floats numbers) k bad count f
