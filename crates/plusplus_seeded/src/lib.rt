@@ -39,11 +39,10 @@ fn draw_all(rng: &mut [u32], first: u64, total: f64, m: usize, draws: &mut [u64]
     ensures { (draws.new ≡ draws_by (rule_of (word_of (key_in rng.old)) total m) (length draws.old) first)
         × (result ≡ place_of (rule_of (word_of (key_in rng.old)) total m) (length draws.old) first) × Moved rng.old result rng.new }
 {
-    let t = draws.len();
     let mut taken = first;
-    for j in 0..t {
+    for draw in draws.iter_mut() {
         let d = draw_one(rng, taken, total, m);
-        draws[j] = d.value;
+        *draw = d.value;
         taken = d.taken;
     }
     taken
