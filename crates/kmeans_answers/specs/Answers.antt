@@ -15,25 +15,33 @@ error_of cause.CellCount = CellCount
 error_of cause.ListLength = ListLength
 error_of (cause.OutOfRange p) = CentreOutOfRange p
 
+-- the table's number of a refusal, and its place, 0 where the table names none
+abbrev pub error_number : KmeansError → ℕ
+error_number InvalidCorrelationMatrix = 2
+error_number TooLarge = 4
+error_number CellCount = 5
+error_number ListLength = 6
+error_number GroupCount = 29
+error_number (CentreOutOfRange p) = 10
+error_number (Stopped s) = stop_number s
+
+abbrev pub error_place : KmeansError → ℕ
+error_place InvalidCorrelationMatrix = 0
+error_place TooLarge = 0
+error_place CellCount = 0
+error_place ListLength = 0
+error_place GroupCount = 0
+error_place (CentreOutOfRange p) = p
+error_place (Stopped s) = stop_place s
+
+-- those of an answer, 0 where nothing is refused
 abbrev pub number_of : {T : Type 0} → Result T KmeansError → ℕ
 number_of (Ok x) = 0
-number_of (Err InvalidCorrelationMatrix) = 2
-number_of (Err TooLarge) = 4
-number_of (Err CellCount) = 5
-number_of (Err ListLength) = 6
-number_of (Err GroupCount) = 29
-number_of (Err (CentreOutOfRange p)) = 10
-number_of (Err (Stopped s)) = stop_number s
+number_of (Err e) = error_number e
 
 abbrev pub place_of : {T : Type 0} → Result T KmeansError → ℕ
 place_of (Ok x) = 0
-place_of (Err InvalidCorrelationMatrix) = 0
-place_of (Err TooLarge) = 0
-place_of (Err CellCount) = 0
-place_of (Err ListLength) = 0
-place_of (Err GroupCount) = 0
-place_of (Err (CentreOutOfRange p)) = p
-place_of (Err (Stopped s)) = stop_place s
+place_of (Err e) = error_place e
 
 abbrev pub refusal_of : {T : Type 0} → Result T KmeansError → Refusal
 refusal_of a = record { number = number_of a; place = place_of a }
