@@ -15,7 +15,7 @@ use lib.ListN.{length}
 use mathlib.Core.Logic.{by_cases}
 use Rattle.text_digits.specs.Digits.{byte_at, newline, run_of, space, spelled}
 use Rattle.lists.specs.Sums.{all_to}
-use Rattle.text_layout.specs.Layout.{cell_form, draw_form, empty_at, field_ok, head_of, layout_of, line_at, lists_of, plain, small_at, sizes, found, start_of}
+use Rattle.text_layout.specs.Layout.{cell_form, draw_form, empty_at, field_ok, head_of, layout_of, line_at, lists_of, number, plain, small_at, sizes, found, start_of}
 use Rattle.text_layout.specs.declared.Form.{Form}
 use Rattle.text_layout.specs.declared.Small.{Small}
 use Rattle.text_layout.specs.declared.Head.{Head}
@@ -39,39 +39,62 @@ taken None f h e = absurd (none-some h e)
 
 -- ---- the first line
 
-small_bound : (s : List ℕ) (p bound stop : ℕ) (a : Small) → small_at s p bound stop ≡ Some a → a.value ≤ bound
+-- a number that is found at p
+pub record SmallRead (s : List ℕ) (p bound stop v q : ℕ) : Type 0 where
+  pub form : plain (byte_at s p) (run_of 10 s p 19) ≡ true
+  pub most : v ≤ bound
+  pub ended : byte_at s (p + run_of 10 s p 19) ≡ stop
+  pub value : spelled 10 s p (run_of 10 s p 19) ≡ v
+  pub end : p + run_of 10 s p 19 + 1 ≡ q
+
+small_taken : (s : List ℕ) (p bound stop : ℕ) (a : Small) → small_at s p bound stop ≡ Some a → SmallRead s p bound stop a.value a.end
 unfolding small_at
-small_bound s p bound stop a e =
+small_taken s p bound stop a e =
     let k = run_of 10 s p 19 in
     let w = spelled 10 s p k in
     let c = cond_both (plain (byte_at s p) k) _ a e in
     let h = cond_both (leb w bound) _ a c.1 in
     let i = cond_some (eqb (byte_at s (p + k)) stop) _ a h.1 in
-    rw (← i.1) (leb-true w bound h.0)
+    rw (← i.1) (record { form = c.0; most = leb-true w bound h.0; ended = eqb-true (byte_at s (p + k)) stop i.0; value = refl; end = refl })
+
+pub small_read_at : (s : List ℕ) (p bound stop v q : ℕ) → small_at s p bound stop ≡ number v q → SmallRead s p bound stop v q
+small_read_at s p bound stop v q e = small_taken s p bound stop (record { value = v; end = q }) e
+
+-- the first line: the places behind its first two numbers, and its numbers
+pub record HeadRead (s : List ℕ) (n r d p : ℕ) : Type 0 where
+  pub second : ℕ
+  pub third : ℕ
+  pub names : small_at s 0 12 space ≡ number n second
+  pub repeats : small_at s second (2 ^ 32 - 1) space ≡ number r third
+  pub draws : small_at s third 1024 newline ≡ number d p
+
+head_taken : (s : List ℕ) (h : Head) → head_of s ≡ Some h → HeadRead s h.names h.repeats h.draws h.end
+unfolding head_of
+head_taken s h e =
+    let a = taken (small_at s 0 12 space) _ h e in
+    let b = taken (small_at s a.v.end (2 ^ 32 - 1) space) _ h a.next in
+    let c = taken (small_at s b.v.end 1024 newline) _ h b.next in
+    rw (← same_Some _ _ c.next) (record { second = a.v.end; third = b.v.end; names = a.is; repeats = b.is; draws = c.is })
+
+pub head_read : (s : List ℕ) (n r d p : ℕ) → head_of s ≡ sizes n r d p → HeadRead s n r d p
+head_read s n r d p e = head_taken s (record { names = n; repeats = r; draws = d; end = p }) e
 
 pub record Within (n r d : ℕ) : Type 0 where
   pub names : n ≤ 12
   pub repeats : r < 2 ^ 32
   pub draws : d ≤ 1024
 
-within : (s : List ℕ) (h : Head) → head_of s ≡ Some h → Within h.names h.repeats h.draws
-unfolding head_of
-within s h e =
-    let a = taken (small_at s 0 12 space) _ h e in
-    let b = taken (small_at s a.v.end (2 ^ 32 - 1) space) _ h a.next in
-    let c = taken (small_at s b.v.end 1024 newline) _ h b.next in
-    let q = same_Some _ _ c.next in
-    let i = small_bound s 0 12 space a.v a.is in
-    let j = small_bound s a.v.end (2 ^ 32 - 1) space b.v b.is in
-    let k = small_bound s b.v.end 1024 newline c.v c.is in
-    rw (← q) (record { names = i; repeats = omega arith; draws = k })
-
 pub head_within : (s : List ℕ) (n r d p : ℕ) → head_of s ≡ sizes n r d p → Within n r d
-head_within s n r d p e = within s (record { names = n; repeats = r; draws = d; end = p }) e
+head_within s n r d p e =
+    let h = head_read s n r d p e in
+    let a = small_read_at s 0 12 space n h.second h.names in
+    let b = small_read_at s h.second (2 ^ 32 - 1) space r h.third h.repeats in
+    let c = small_read_at s h.third 1024 newline d p h.draws in
+    record { names = a.most; repeats = omega (arith, b.most); draws = c.most }
 
 -- what `lists_of` asks
 pub head_names : (s : List ℕ) (h : Head) → head_of s ≡ Some h → h.names ≤ 12
-head_names s h e = (within s h e).names
+head_names s h e = (head_within s h.names h.repeats h.draws h.end e).names
 
 -- ---- the two lists
 
