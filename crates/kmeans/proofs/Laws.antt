@@ -30,6 +30,7 @@ use Rattle.lloyd.specs.Result.{LloydResult}
 use Rattle.lloyd_pass.proofs.Same.{lloyd_same}
 use Rattle.lloyd_pass.proofs.Below.{labels_below, labels_length}
 use Rattle.kmeans.specs.Clustering.{Grouped, kmeans_of}
+use Rattle.kmeans.proofs.Parts.{clustered_parts}
 use Rattle.kmeans.specs.Steps.{clustered, ClusteredBy}
 
 -- the groups that the passes make from centres
@@ -87,10 +88,8 @@ module _ (x : ℕ → ℕ → Float) (m k : ℕ) (z : 0 < m) (one_of_lem : 0 < k
 done_is : (D : Drawn Grouped) {next n : ℕ} {old new : List ℕ} {e : Ended} → ClusteredBy D next old (clustered n e) new
     → (rest : List ℕ) × (n ≡ next) × (D ≡ drawn (record { labels = new; ended = e }) rest)
 done_is (drawn g rest) {next} {n} {old} {new} {e} s =
-    let a : clustered n e ≡ clustered next g.ended = s.answer_is in
-    let u : n ≡ next = cc in
-    let v : e ≡ g.ended = cc in
-    (rest, u, rw (v, s.labels_are))
+    let p = clustered_parts n next e g.ended s.answer_is in
+    (rest, p.0, rw (p.1, s.labels_are))
 done_is (refused p) {next} {n} {old} {new} {e} s =
     let a : clustered n e ≡ Err (DrawOutOfRange p) = s.answer_is in
     let z : ◌≡◌ {A = ℕ} 0 1 = cc in

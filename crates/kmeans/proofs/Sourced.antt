@@ -25,6 +25,7 @@ use Rattle.plusplus_seeded.specs.Sources.{words_by, given, moved_on, RngOf, seed
 use Rattle.plusplus_seeded.proofs.Same.{seed_matrix}
 use Rattle.lloyd_pass.specs.declared.Ended.{Ended}
 use Rattle.kmeans.specs.Clustering.{Grouped}
+use Rattle.kmeans.proofs.Parts.{clustered_parts, labelled_parts}
 use Rattle.kmeans.specs.Steps.{clustered, labelled, ClusteredBy, LabelledBy, MayCluster, seed_given, seed_moved}
 
 supplied_same : (R R' : Drawn (List ℕ)) (n n' : Source) (r : Result Source Stop) (l : List ℕ) → R ≡ R' → n ≡ n' → SuppliedBy R n r l → SuppliedBy R' n' r l
@@ -86,8 +87,7 @@ seeded_stopped (refused p) {next} {at} {w} {cs} s =
 -- what k-means answers, with a source and with a place
 pub labelled_done : (D : Drawn Grouped) {next n : Source} {old new : List ℕ} {e : Ended} → n ≡ next → ClusteredBy D 0 old (clustered 0 e) new → LabelledBy D next old (labelled n e) new
 labelled_done (drawn g rest) {next} {n} {old} {new} {e} h s =
-    let a : clustered 0 e ≡ clustered 0 g.ended = s.answer_is in
-    let v : e ≡ g.ended = cc in
+    let v = (clustered_parts 0 0 e g.ended s.answer_is).1 in
     record { answer_is = rw (h, v) refl; labels_are = s.labels_are }
 labelled_done (refused p) {next} {n} {old} {new} {e} h s =
     let a : clustered 0 e ≡ Err (DrawOutOfRange p) = s.answer_is in
@@ -106,10 +106,8 @@ labelled_stopped (refused p) {next} {w} {old} {new} s =
 
 pub clustered_done : (D : Drawn Grouped) {next n : Source} {old new : List ℕ} {e : Ended} → LabelledBy D next old (labelled n e) new → ClusteredBy D next.at old (clustered n.at e) new
 clustered_done (drawn g rest) {next} {n} {old} {new} {e} s =
-    let a : labelled n e ≡ labelled next g.ended = s.answer_is in
-    let u : n ≡ next = cc in
-    let v : e ≡ g.ended = cc in
-    record { answer_is = rw (u, v) refl; labels_are = s.labels_are }
+    let p = labelled_parts n next e g.ended s.answer_is in
+    record { answer_is = rw (p.0, p.1) refl; labels_are = s.labels_are }
 clustered_done (refused p) {next} {n} {old} {new} {e} s =
     let a : labelled n e ≡ Err (DrawOutOfRange p) = s.answer_is in
     let z : ◌≡◌ {A = ℕ} 0 1 = cc in
