@@ -1,5 +1,5 @@
 -- From what the search answers to what the base of a round is.
-use Rattle.std.specs.Prelude.{Option, Some, Ok, None, Err}
+use Rattle.std.specs.Prelude.{Option, Some, Result, Ok, None, Err}
 use Prim.Native.Nat.{ℕ, ◌+◌, ◌*◌, ◌<◌, ◌≤◌}
 use mathlib.Core.Path.{◌≡◌, refl, ◌∙◌, ap, subst}
 use mathlib.Core.List.{List, ◌++◌}
@@ -17,15 +17,22 @@ use Rattle.draws.proofs.Taken.{Ends}
 use Rattle.plusplus_seeded.specs.declared.Source.{Source}
 use Rattle.partition.specs.Partition.{groups_of, joined}
 use Rattle.partition.specs.Orders.{sizes_of}
+use Rattle.candidates.specs.declared.Searched.{Searched}
 use Rattle.candidates.specs.Candidates.{Best, best_of}
 use Rattle.candidates.specs.Made.{repeats_given, repeats_moved}
 use Rattle.candidates.specs.Steps.{kept_by, SearchedBy}
-use Rattle.candidates.specs.declared.Searched as searched
+use Rattle.base.specs.declared.Based.{Based}
 use Rattle.base.specs.Base.{based, BasedBy}
 use Rattle.silhouette_areas.proofs.Laws.{book_points}
 use Rattle.candidates.proofs.Answers.{searched_stopped, searched_nothing, searched_found}
 use Rattle.candidates.proofs.Sourced.{given_alike, moved_alike}
 use Rattle.candidates.proofs.Laws.{best_same, best_took, Found}
+
+-- what two equal answers have in common
+pub based_parts : (g h : ℕ) (n m : Source) → based g n ≡ based h m → (g ≡ h) × (n ≡ m)
+based_parts g h n m e =
+    let r : ◌≡◌ {A = Based} (record { groups = g; source = n }) (record { groups = h; source = m }) = cc in
+    (ap (λ (x : Based). x.groups) r, ap (λ (x : Based). x.source) r)
 
 -- the search on the areas of a book is the search of the book, and takes the same draws
 pub book_searched : (x : ℕ → ℕ → Float) (m : ℕ) → 2 ≤ m → (area : List Float) {front : List Float} → front ≡ pairs_area x m → (repeats : ℕ) (src : Source) (draws : List ℕ)

@@ -12,6 +12,8 @@ use Rattle.plusplus_seeded.specs.declared.Source.{Source}
 use Rattle.choice.specs.declared.Kept.{Kept}
 use Rattle.candidates.specs.Candidates.{Best, nothing, found}
 use Rattle.candidates.specs.Candidates as candidates
+use Rattle.candidates.specs.declared.Searched.{Searched}
+use Rattle.candidates.specs.declared.Tried.{Tried}
 use Rattle.candidates.specs.Steps.{searched, made, kept_by, kept_of, best_from, Holds, SearchedBy, TriedBy}
 
 -- what is kept, with its lists, is the best
@@ -27,14 +29,23 @@ lists_are : (kept : Option Kept) (l : List ℕ) (s : List Float) → Holds (best
 lists_are None l s = tt
 lists_are (Some k) l s = (refl, refl)
 
+-- what two equal answers have in common
+searched_parts : (n m : Source) (k j : Option Kept) → searched n k ≡ searched m j → (n ≡ m) × (k ≡ j)
+searched_parts n m k j e =
+    let r : ◌≡◌ {A = Searched} (record { source = n; kept = k }) (record { source = m; kept = j }) = cc in
+    (ap (λ (x : Searched). x.source) r, ap (λ (x : Searched). x.kept) r)
+
+made_parts : (n m : Source) (a b c d : Float) → made n a b ≡ made m c d → (n ≡ m) × (a ≡ c) × (b ≡ d)
+made_parts n m a b c d e =
+    let r : ◌≡◌ {A = Tried} (record { source = n; stat = a; mean = b }) (record { source = m; stat = c; mean = d }) = cc in
+    (ap (λ (x : Tried). x.source) r, ap (λ (x : Tried). x.stat) r, ap (λ (x : Tried). x.mean) r)
+
 -- the best that an answer tells
-pub searched_done : (D : Drawn Best) {next n : Source} {kept : Kept} {l : List ℕ} {s : List Float} → SearchedBy D next (searched n kept) l s
+pub searched_done : (D : Drawn Best) {next n : Source} {kept : Option Kept} {l : List ℕ} {s : List Float} → SearchedBy D next (searched n kept) l s
     → (rest : List ℕ) × (n ≡ next) × (D ≡ drawn (best_from kept l s) rest)
 searched_done (drawn b rest) {next} {n} {kept} {l} {s} h =
-    let a : searched n kept ≡ searched next (kept_of b) = h.answer_is in
-    let u : n ≡ next = cc in
-    let v : kept ≡ kept_of b = cc in
-    (rest, u, ap (λ (x : Best). drawn x rest) (best_is b kept l s v h.leaves))
+    let p = searched_parts n next kept (kept_of b) h.answer_is in
+    (rest, p.0, ap (λ (x : Best). drawn x rest) (best_is b kept l s p.1 h.leaves))
 searched_done (refused p) {next} {n} {kept} {l} {s} h =
     let a : searched n kept ≡ Err (DrawOutOfRange p) = h.answer_is in
     let z : ◌≡◌ {A = ℕ} 0 1 = cc in
@@ -73,11 +84,8 @@ stopped_by D next w l s p e q = record { answer_is = rw (e, q) refl; leaves = rw
 pub tried_made : (D : Drawn candidates.Candidate) {next n : Source} {a b : Float} {l : List ℕ} {s : List Float} → TriedBy D next (made n a b) l s
     → (rest : List ℕ) × (n ≡ next) × (D ≡ drawn (record { labels = l; scores = s; stat = a; mean = b }) rest)
 tried_made (drawn c rest) {next} {n} {a} {b} {l} {s} h =
-    let q : made n a b ≡ made next c.stat c.mean = h.answer_is in
-    let u : n ≡ next = cc in
-    let v : a ≡ c.stat = cc in
-    let w : b ≡ c.mean = cc in
-    (rest, u, rw (v, w, h.written.0, h.written.1))
+    let p = made_parts n next a c.stat b c.mean h.answer_is in
+    (rest, p.0, rw (p.1, p.2, h.written.0, h.written.1))
 tried_made (refused p) {next} {n} {a} {b} {l} {s} h =
     let q : made n a b ≡ Err (DrawOutOfRange p) = h.answer_is in
     let z : ◌≡◌ {A = ℕ} 0 1 = cc in

@@ -20,6 +20,7 @@ use Rattle.kmeans.specs.Clustering.{Grouped, kmeans_of}
 use Rattle.plusplus_seeded.specs.declared.Source.{Source}
 use Rattle.plusplus_seeded.specs.Sources.{Supplies}
 use Rattle.kmeans.specs.Steps.{labelled, LabelledBy, seed_given, seed_moved}
+use Rattle.kmeans.proofs.Parts.{labelled_parts}
 use Rattle.kmeans.proofs.Laws.{kmeans_done, kmeans_stopped}
 use Rattle.kmeans.proofs.Sourced.{clustered_done, clustered_stopped}
 use Rattle.silhouette_areas.specs.Scoring.{scores_of}
@@ -36,8 +37,7 @@ use Rattle.candidates.proofs.Sourced.{supplies_front, source_turn, source_stoppe
 -- what the answer of k-means says
 labelled_next : (D : Drawn Grouped) {next n : Source} {old new : List ℕ} {e : Ended} → LabelledBy D next old (labelled n e) new → n ≡ next
 labelled_next (drawn g rest) {next} {n} {old} {new} {e} s =
-    let a : labelled n e ≡ labelled next g.ended = s.answer_is in
-    cc
+    (labelled_parts n next e g.ended s.answer_is).0
 labelled_next (refused p) {next} {n} {old} {new} {e} s =
     let a : labelled n e ≡ Err (DrawOutOfRange p) = s.answer_is in
     let z : ◌≡◌ {A = ℕ} 0 1 = cc in
@@ -132,7 +132,7 @@ module _ (x : ℕ → ℕ → Float) (m : ℕ) (z : 0 < m) (k end : ℕ) (b : Be
   abbrev candidates_by : ℕ → ℕ → Best → Source → Drawn Best
   candidates_by k j u s = tries_from x m k j u s.at (tries_given x m k j s draws)
 
-  pub turn_done : {n : Source} {kept : Kept} {l : List ℕ} {s : List Float} → 0 < k → k ≤ m → k < end
+  pub turn_done : {n : Source} {kept : Option Kept} {l : List ℕ} {s : List Float} → 0 < k → k ≤ m → k < end
       → SearchedBy (tries_from x m k 1 b src.at (seed_given x m k src draws)) (seed_moved x m k src) (searched n kept) l s
       → (tries_from x m k (end - k) b src.at (tries_given x m k (end - k) src draws) ≡ tries_from x m (k + 1) (end - (k + 1)) (best_from kept l s) n.at (tries_given x m (k + 1) (end - (k + 1)) n draws))
       × (tries_moved x m k (end - k) src ≡ tries_moved x m (k + 1) (end - (k + 1)) n)
@@ -173,7 +173,7 @@ module _ (x : ℕ → ℕ → Float) (m : ℕ) (two : 2 ≤ m) (t repeat : ℕ) 
   abbrev repeats_by : ℕ → Best → Source → Drawn Best
   repeats_by r u s = repeats_from x m r u s.at (repeats_given x m r s draws)
 
-  pub repeat_done : {n : Source} {kept : Kept} {l : List ℕ} {s : List Float} → t < repeat
+  pub repeat_done : {n : Source} {kept : Option Kept} {l : List ℕ} {s : List Float} → t < repeat
       → SearchedBy (tries_from x m 2 (tries m) b src.at (tries_given x m 2 (tries m) src draws)) (repeat_moved x m src) (searched n kept) l s
       → (repeats_from x m (repeat - t) b src.at (repeats_given x m (repeat - t) src draws) ≡ repeats_from x m (repeat - (t + 1)) (best_from kept l s) n.at (repeats_given x m (repeat - (t + 1)) n draws))
       × (repeats_moved x m (repeat - t) src ≡ repeats_moved x m (repeat - (t + 1)) n)

@@ -15,6 +15,7 @@ use Rattle.lists.proofs.Parts.{drop_behind}
 use Rattle.refusals.specs.Table.{work_doubles, work_numbers, wiped, wiped_numbers}
 use Rattle.distance.specs.Distance.{cell_through}
 use Rattle.draws.specs.declared.Stop.{Stop}
+use Rattle.round_top.proofs.Rounding.{top_parts}
 use Rattle.round_top.specs.declared.Top.{Top}
 use Rattle.plusplus_seeded.specs.declared.Source.{Source}
 use Rattle.round.specs.Round.{Run, done, ended, round_of}
@@ -140,9 +141,8 @@ module _ (book : List Float) (n : ℕ) (r : Run) (l : Lists) {a : Result Top Sto
             (ran book n r l)
         by (ended q ms) ea eo es ec = let z : ◌≡◌ {A = ℕ} 0 1 = cc in let y : ⊥ = omega arith in absurd y
         by (done t ms last rest) ea eo es ec =
-            let z : groups ≡ length t.groups = cc in
-            let z' : read ≡ last = cc in
-            rw (matrix, eo, es, ec, floats_wiped, numbers_wiped, z, z') refl
+            let p = top_parts groups (length t.groups) read last (sym is ∙ ea) in
+            rw (matrix, eo, es, ec, floats_wiped, numbers_wiped, p.0, p.1) refl
 
   -- each number of the order is a name
   pub order_below : (groups read : ℕ) → a ≡ top groups read → Whole n r → (j : ℕ) → j < length order → numbers order j < n

@@ -28,6 +28,7 @@ use Rattle.plusplus_seeded.specs.declared.Source.{Source}
 use Rattle.plusplus_seeded.specs.Sources.{words_by, Supplies}
 use Rattle.candidates.specs.Steps.{Enough}
 use Rattle.candidates.proofs.Sourced.{repeats_long}
+use Rattle.base.proofs.Laws.{based_parts}
 use Rattle.base.specs.Base.{based, base_of, based_of, BasedBy, Leaves}
 use Rattle.improve_merge.specs.Merging.{weak_items}
 use Rattle.improve_merge.specs.Steps.{state_of}
@@ -204,9 +205,8 @@ module _ (book : List Float) (n m repeats : ℕ) (draws : List ℕ) (src : Sourc
       → based g next ≡ based_of m moved E → Leaves m E o z q → Opened g next o z q
   of_done (drawn nothing rest) g next o z q e t a l = let y : ◌≡◌ {A = ℕ} 0 1 = cc in absurd (omega arith)
   of_done (drawn (found c) rest) g next o z q e t a l =
-      let eg : g ≡ length (base_of m c).groups = cc in
-      let en : next ≡ moved = cc in
-      record { base = base_of m c; rest = rest; starts_as = e; parts = t.0; count = eg; next_is = en; ordered = l.ordered; sized = l.sized; scored = l.scored }
+      let p = based_parts g (length (base_of m c).groups) next moved a in
+      record { base = base_of m c; rest = rest; starts_as = e; parts = t.0; count = p.0; next_is = p.1; ordered = l.ordered; sized = l.sized; scored = l.scored }
   of_done (refused p) g next o z q e t a l = let y : ◌≡◌ {A = ℕ} 0 1 = cc in absurd (omega arith)
 
   pub opened_law : (g : ℕ) (next : Source) {o z : List ℕ} {q : List Float} → BasedBy (length rows) D moved (based g next) o z q → Opened g next o z q

@@ -33,6 +33,17 @@ use Rattle.round.proofs.Runs.{weak_in, OpeningTook, opening_took, Whole, whole, 
 use Rattle.round.proofs.Sourced.{later_made, source_started, source_unstarted, later_again, stood_behind}
 use Rattle.round.proofs.Standing.{stands_state, stands_cut, stands_parted, stands_plain}
 
+-- what two equal answers have in common
+start_parts : (g h k l v w : ℕ) (n m : Source) → round_start g k v n ≡ round_start h l w m → (g ≡ h) × (k ≡ l) × (v ≡ w) × (n ≡ m)
+start_parts g h k l v w n m e =
+    let r : ◌≡◌ {A = RoundStart} (record { groups = g; weak = k; items = v; source = n }) (record { groups = h; weak = l; items = w; source = m }) = cc in
+    (ap (λ (x : RoundStart). x.groups) r, ap (λ (x : RoundStart). x.weak) r, ap (λ (x : RoundStart). x.items) r, ap (λ (x : RoundStart). x.source) r)
+
+pub top_parts : (g h r s : ℕ) → top g r ≡ top h s → (g ≡ h) × (r ≡ s)
+top_parts g h r s e =
+    let t : ◌≡◌ {A = Top} (record { groups = g; read = r }) (record { groups = h; read = s }) = cc in
+    (ap (λ (x : Top). x.groups) t, ap (λ (x : Top). x.read) t)
+
 pub level_pos : (left : ℕ) → (left ≡ 0 → ⊥) → 1 ≤ left
 level_pos zero h = absurd (h refl)
 level_pos (suc l) h = omega arith
@@ -141,10 +152,11 @@ module _ (book : List Float) (n repeats : ℕ) (draws : List ℕ) (src : Source)
           → OpeningTook (need_of repeats m) (own_given src draws book n repeats rows) m o → Starts o n m rows wi₁ wf₁ → Started groups weak w a
       of_started (unstarted q ms) groups weak w a e b t s = let z : ◌≡◌ {A = ℕ} 0 1 = cc in absurd (omega arith)
       of_started (started base rest) groups weak w a e b t s =
-          let eg : groups ≡ length base.groups = cc in
-          let ek : weak ≡ weak_in base = cc in
-          let ew : w ≡ length (weak_items base) = cc in
-          let ea : a ≡ moved = cc in
+          let p = start_parts groups (length base.groups) weak (weak_in base) w (length (weak_items base)) a moved b in
+          let eg : groups ≡ length base.groups = p.0 in
+          let ek : weak ≡ weak_in base = p.1 in
+          let ew : w ≡ length (weak_items base) = p.2 in
+          let ea : a ≡ moved = p.3 in
           record {
             base = base;
             rest = rest;
@@ -371,8 +383,9 @@ module _ (book : List Float) (n repeats : ℕ) (draws : List ℕ) (src : Source)
                 → lz ≡ sizes_after (length (take w order)) r (take w sizes) → Inner g last
             of_done (ended q ms) g last e p eb ea eo ez = let z : ◌≡◌ {A = ℕ} 0 1 = cc in absurd (omega arith)
             of_done (done h ms q rest) g last e p eb ea eo ez =
-                let eg : g ≡ length h.groups = cc in
-                let el : q ≡ last = cc in
+                let parts = top_parts g (length h.groups) last q (sym eb ∙ ea) in
+                let eg : g ≡ length h.groups = parts.0 in
+                let el : q ≡ last = sym parts.1 in
                 let small : w ≤ 256 = omega (arith, w_few, few) in
                 let fo : take w order₂ ≡ joined h.groups = take_at lo (drop w order) w (len-order ∙ in_len) ∙ eo in
                 let fz : take w sizes₂ ≡ sizes_of w h.groups =
