@@ -7,4 +7,4 @@ pub returns-then-out-lt1024 : goal.returns-then-out-lt1024
 returns-then-out-lt1024 c = not_written _ _ _ (lt-leb _ _ c.if-out-lt1024.true)
 
 pub returns : goal.returns
-returns c = written _ (le-leb _ _ c.if-out-lt1024.false) c.put_refused-n.ensures (refused_room c.args.number c.args.place c.if-out-lt1024.false)
+returns c = written _ (le-leb _ _ c.if-out-lt1024.false) c.put_refused.ensures (refused_room c.args.number c.args.place c.if-out-lt1024.false)
