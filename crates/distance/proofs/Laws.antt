@@ -1,6 +1,6 @@
 -- What the checks give to the functions behind them, and the plain book as a matrix.
 use Prim.Native.Nat.{ℕ, zero, suc, ◌*◌, ◌/◌, ◌%◌}
-use mathlib.Core.Path.{◌≡◌, refl, sym, ap}
+use mathlib.Core.Path.{◌≡◌, sym, ap}
 use mathlib.Core.Bool.{Bool}
 use mathlib.Core.List.{List}
 use native.Mathlib.Nat.{div-add-mod'}
@@ -10,9 +10,6 @@ use lib.Ieee.{Float, nan}
 use Rattle.lists.specs.Lists.{listed, cells, cell_at, matrix_of, first_from}
 use Rattle.lists.proofs.Listed.{listed_same}
 use Rattle.lists.proofs.First.{from_none}
-use Rattle.refusals.specs.declared.Answer.{Answer}
-use Rattle.refusals.specs.declared.Answer.TheVariants.{Done, InvalidCorrelationMatrix, TooLarge, CellCount, ListLength, OutOfRange}
-use Rattle.refusals.specs.Table.{number_of}
 use Rattle.refusals.proofs.Laws.{Accepted}
 use Rattle.distance.specs.Distance.{Readable}
 
@@ -27,12 +24,3 @@ plain_matrix g book zero = listed_same nan (λ t. g (cells book t)) (λ t. g (ce
 plain_matrix g book (suc n) =
     listed_same nan (λ t. g (cells book t)) (λ t. g (cell_at book (suc n) (t / suc n) (t % suc n))) (suc n * suc n)
     (λ t l. ap (λ (k : ℕ). g (cells book k)) (sym (div-add-mod' t (suc n))))
-
--- an answer other than done has a number other than 0
-pub refused_number : (a : Answer) → (a ≡ Done → ⊥) → number_of a ≡ 0 → ⊥
-refused_number Done h e = h refl
-refused_number InvalidCorrelationMatrix h e = omega arith
-refused_number TooLarge h e = omega arith
-refused_number CellCount h e = omega arith
-refused_number ListLength h e = omega arith
-refused_number (OutOfRange k) h e = omega arith

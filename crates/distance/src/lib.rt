@@ -95,9 +95,8 @@ fn distances_of(book: &[f64], out: &mut [f64])
     requires { length out.old ≡ length book.now }
     ensures { out.new ≡ listed (λ t. spec.distance_of (cells book.now t)) (length book.now) }
 {
-    let n = book.len();
-    for t in 0..n {
-        out[t] = distance(book[t]);
+    for (t, c) in book.iter().enumerate() {
+        out[t] = distance(*c);
     }
 }
 
@@ -106,36 +105,27 @@ pub fn corr_to_distance(book: &[f64], n: usize, out: &mut [f64]) -> Answer
     ensures { record { answer = refusal_of result; out = out.new } ≡ leaves.corr_to_distance book.now n out.old }
 {
     let fits = refusals::is_square(out.len(), n);
-    let answer = refusals::check(book.len(), n, n, fits, 0, 0);
-    if refusals::number_of(answer) != 0 {
-        return answer;
-    }
+    refusals::check(book.len(), n, n, fits, 0, 0)?;
     distances_of(book, out);
-    answer
+    Ok(())
 }
 
 // The same of the book that the rows make.
 pub fn corr_to_distance_through(book: &[f64], n: usize, rows: &[usize], out: &mut [f64]) -> Answer
     ensures { record { answer = refusal_of result; out = out.new } ≡ leaves.corr_to_distance_through book.now n rows.now out.old }
 {
-    let answer = check_rows(book.len(), n, rows, out.len());
-    if refusals::number_of(answer) != 0 {
-        return answer;
-    }
+    check_rows(book.len(), n, rows, out.len())?;
     fill_distances(book, n, rows, out);
-    answer
+    Ok(())
 }
 
 // The cells of the book that the rows make.
 pub fn submatrix(book: &[f64], n: usize, rows: &[usize], out: &mut [f64]) -> Answer
     ensures { record { answer = refusal_of result; out = out.new } ≡ leaves.submatrix_of book.now n rows.now out.old }
 {
-    let answer = check_rows(book.len(), n, rows, out.len());
-    if refusals::number_of(answer) != 0 {
-        return answer;
-    }
+    check_rows(book.len(), n, rows, out.len())?;
     fill_cells(book, n, rows, out);
-    answer
+    Ok(())
 }
 
 // The first row of the table that applies to a book read through the rows, and an output of `out` cells.

@@ -11,9 +11,8 @@ fn add_column(sums: &mut [f64], column: &[f64], x: f64)
     requires { length column.now ≡ length sums.old }
     ensures { sums.new ≡ listed (λ j. added (cells sums.old j) (cells column.now j) x) (length sums.old) }
 {
-    let m = sums.len();
-    for j in 0..m {
-        let d = x - column[j];
+    for (j, y) in column.iter().enumerate() {
+        let d = x - *y;
         sums[j] = sums[j] + d * d;
     }
 }

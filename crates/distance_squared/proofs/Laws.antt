@@ -1,15 +1,16 @@
 -- What the checks give to the functions behind them, and the record of an answer.
 use Prim.Native.Nat.{ℕ, ◌+◌, ◌<◌, ◌≤◌}
-use mathlib.Core.Path.{◌≡◌, sym, ap}
+use mathlib.Core.Path.{◌≡◌}
 use mathlib.Core.List.{[], ◌∷◌}
 use mathlib.Core.Logic.{by_cases}
 use native.Mathlib.Decide.{dec_lt}
 use native.Mathlib.Omega.{arith}
-use borrow.Author.Tests.{lt-ltb, le-ltb, le-leb, lt-leb, eq-eqb, ne_eqb}
+use borrow.Author.Tests.{lt-ltb, le-ltb, le-leb, lt-leb, ne_eqb}
+use Rattle.std.proofs.Common.{Err}
 use lib.Ieee.{Float}
 use Rattle.refusals.specs.Table.{Refusal, none, number_of, refusal_of}
-use Rattle.refusals.specs.declared.Answer.{Answer}
-use Rattle.refusals.proofs.Laws.{done_none}
+use Rattle.refusals.specs.declared.Cause.{Cause}
+use Rattle.refusals.proofs.Laws.{err_number}
 use Rattle.distance_squared.specs.Leaves.{first_bad, measured}
 
 -- a place for a number that no bad number takes: they are all in range
@@ -29,11 +30,9 @@ all_good bad m i j h =
     (λ b. let z : m + 2 ≤ m + 1 = rw (le-ltb bad m (omega arith), lt-leb m i a, le-leb m j (omega arith)) at h in absurd (omega arith)))
     (λ a. let z : m + 2 ≤ m = rw (le-ltb bad m (omega arith), le-leb m i (omega arith)) at h in absurd (omega arith)))
 
--- the record of a call that answers a number, refused and not
-module _ (a : Answer) (q : Refusal) (is : refusal_of a ≡ q) (x : Float) where
-  pub not_measured : (number_of a ≡ 0 → ⊥) → record { answer = refusal_of a; values = [] } ≡ measured q x
-  not_measured h = rw (← is, ne_eqb (number_of a) 0 h)
+-- the records of a call that answers Err, and of one that answers Ok
+pub not_measured : (k : Cause) {q : Refusal} → refusal_of (Err k) ≡ q → (x : Float) → record { answer = refusal_of (Err k); values = [] } ≡ measured q x
+not_measured k is x = rw (← is, ne_eqb (number_of (Err k)) 0 (err_number k))
 
-  pub was_measured : {y : Float} → number_of a ≡ 0 → y ≡ x → record { answer = none; values = y ∷ [] } ≡ measured q x
-  was_measured h e =
-      rw (← is, eq-eqb (number_of a) 0 h, e) (ap (λ (k : Refusal). record { answer = k; values = x ∷ [] }) (sym (done_none a h)))
+pub was_measured : {q : Refusal} {x y : Float} → none ≡ q → y ≡ x → record { answer = none; values = y ∷ [] } ≡ measured q x
+was_measured is e = rw (← is, e)

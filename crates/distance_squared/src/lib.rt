@@ -1,7 +1,7 @@
 // The squared distance of two lists, and of two items of a book that is read through a list of row numbers.
 #![tactic(auto)]
 
-ghost use Rattle.std.specs.Prelude.{◌≡◌, true, ◌<◌, ◌≤◌, ◌+◌, min, length};
+ghost use Rattle.std.specs.Prelude.{◌≡◌, true, ◌<◌, ◌≤◌, ◌+◌, length};
 ghost use Rattle.lists.specs.Lists.{first_from};
 ghost use Rattle.refusals.specs.Table.{refusal_of, refusal};
 ghost use Rattle.distance.specs.Distance.{dist_at, Readable};
@@ -9,30 +9,15 @@ ghost use Rattle.distance_columns.specs.Pair.{squared_at};
 ghost use Rattle.distance_squared.specs.Leaves as leaves;
 ghost use Rattle.distance_squared.specs.Leaves.{measured_of};
 
-use refusals::Answer;
-
-// A squared distance, or why there is none.
-#[derive(Drop)]
-pub enum Squared {
-    Value(f64),
-    Refused(Answer),
-}
-
-// The lesser of two lengths.
-fn shorter(a: usize, b: usize) -> usize
-    ensures { result ≡ min a b }
-{
-    if a < b { a } else { b }
-}
+use refusals::{Answer, Cause};
 
 // The squares of the differences, in order, of the columns that both lists have.
 pub fn squared_distance(a: &[f64], b: &[f64]) -> f64
     ensures { result ≡ leaves.squared_distance a.now b.now }
 {
-    let n = shorter(a.len(), b.len());
     let mut sum = 0.0;
-    for c in 0..n {
-        let d = a[c] - b[c];
+    for (x, y) in a.iter().zip(b) {
+        let d = *x - *y;
         sum = sum + d * d;
     }
     sum
@@ -54,6 +39,7 @@ fn squared_between(book: &[f64], n: usize, rows: &[usize], i: usize, j: usize) -
 }
 
 // The place of the first bad number among the rows, i and j; m + 2 if none.
+#[tactic(auto, using(std::proofs::lemmas::Bool::Decides::nat_tests), unfolding(crate::specs::Leaves::first_bad))]
 fn first_bad(bad: usize, m: usize, i: usize, j: usize) -> usize
     requires { m ≤ 256 }
     ensures { result ≡ leaves.first_bad bad m i j }
@@ -89,12 +75,9 @@ pub fn squared_distance_through(
     rows: &[usize],
     i: usize,
     j: usize,
-) -> Squared
+) -> Result<f64, Cause>
     ensures { measured_of result ≡ leaves.squared_distance_through book.now n rows.now i j }
 {
-    let answer = check_items(book.len(), n, rows, i, j);
-    if refusals::number_of(answer) != 0 {
-        return Squared::Refused(answer);
-    }
-    Squared::Value(squared_between(book, n, rows, i, j))
+    check_items(book.len(), n, rows, i, j)?;
+    Ok(squared_between(book, n, rows, i, j))
 }

@@ -13,9 +13,8 @@ fn add_row(row: &[f64], out: &mut [f64])
     requires { length row.now ≡ length out.old }
     ensures { out.new ≡ listed (λ i. add binary64 (cells out.old i) (cells row.now i)) (length row.now) }
 {
-    let n = row.len();
-    for i in 0..n {
-        out[i] = out[i] + row[i];
+    for (i, x) in row.iter().enumerate() {
+        out[i] = out[i] + *x;
     }
 }
 
@@ -23,10 +22,9 @@ fn add_row(row: &[f64], out: &mut [f64])
 fn scale(out: &mut [f64], count: f64)
     ensures { out.new ≡ listed (λ i. mul binary64 (cells out.old i) (div binary64 one64 count)) (length out.old) }
 {
-    let n = out.len();
     let inverse = 1.0 / count;
-    for i in 0..n {
-        out[i] = out[i] * inverse;
+    for x in out.iter_mut() {
+        *x = *x * inverse;
     }
 }
 
@@ -36,12 +34,10 @@ fn sum_members(points: &[f64], labels: &[usize], l: usize, out: &mut [f64])
     ensures { out.new ≡ listed (λ c. sum_if (in_group (numbers labels.now) l) (λ i. cell_at points.now (length labels.now) i c) (length labels.now)) (length labels.now) }
 {
     out.fill(0.0);
-    let m = labels.len();
-    for i in 0..m {
-        if labels[i] != l {
-            continue;
+    for (i, x) in labels.iter().enumerate() {
+        if *x == l {
+            add_row(lists::row_of(points, labels.len(), i), out);
         }
-        add_row(lists::row_of(points, m, i), out);
     }
 }
 
@@ -54,7 +50,7 @@ fn mean_row(points: &[f64], labels: &[usize], l: usize, n: usize, out: &mut [f64
     scale(out, lists::count_as_f64(n));
 }
 
-// The squared distance of each item to the mean of the n members of group l, which is left in `mean`. Inner form, as the next.
+// The squared distance of each item to the mean of the n members of group l, which is left in `mean`. Inner form, as the next two.
 fn distances_with(
     points: &[f64],
     across: &[f64],
@@ -71,6 +67,22 @@ fn distances_with(
     distance_columns::squared_tail(mean, across, 0, out);
 }
 
+// The same, with N places of its own for the mean: a few items take little of the stack.
+fn distances_on<const N: usize>(
+    points: &[f64],
+    across: &[f64],
+    labels: &[usize],
+    l: usize,
+    n: usize,
+    out: &mut [f64],
+)
+    requires { Items points.now across.now (length labels.now) × (length out.old ≡ length labels.now) × (length labels.now ≤ N) × (N ≤ 256) }
+    ensures { out.new ≡ distances (cell_at points.now (length labels.now)) (length labels.now) (mean_over (cell_at points.now (length labels.now)) (numbers labels.now) (length labels.now) n l) }
+{
+    let mut mean = lists::buffer::<f64, N>(0.0);
+    distances_with(points, across, labels, l, n, &mut mean[..labels.len()], out);
+}
+
 // The squared distance of each item to the mean of the n members of group l. Inner form: `across` is the transpose of `points`.
 pub fn mean_distances(
     points: &[f64],
@@ -83,12 +95,9 @@ pub fn mean_distances(
     requires { Items points.now across.now (length labels.now) × (length out.old ≡ length labels.now) }
     ensures { out.new ≡ distances (cell_at points.now (length labels.now)) (length labels.now) (mean_over (cell_at points.now (length labels.now)) (numbers labels.now) (length labels.now) n l) }
 {
-    let m = labels.len();
-    if m <= 32 {
-        let mut mean = lists::buffer::<f64, 32>(0.0);
-        distances_with(points, across, labels, l, n, &mut mean[..m], out);
+    if labels.len() <= 32 {
+        distances_on::<32>(points, across, labels, l, n, out);
         return;
     }
-    let mut mean = lists::buffer::<f64, 256>(0.0);
-    distances_with(points, across, labels, l, n, &mut mean[..m], out);
+    distances_on::<256>(points, across, labels, l, n, out);
 }

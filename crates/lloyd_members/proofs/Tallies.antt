@@ -1,7 +1,7 @@
 -- The sizes of all groups, and the groups that an item joins or leaves, item by item in a list with a place for each group.
 use Prim.Native.Nat.{ℕ, ◌+◌, ◌≤◌, ◌<◌}
 use mathlib.Core.Path.{◌≡◌, refl, sym, ap, ◌∙◌}
-use mathlib.Core.Bool.{Bool, true, false, cond, not, ◌&&◌, beq}
+use mathlib.Core.Bool.{Bool, true, false, not, ◌&&◌, ◌||◌, beq}
 use mathlib.Core.List.{List}
 use mathlib.Core.Logic.{by_cases}
 use native.Mathlib.Omega.{arith}
@@ -16,7 +16,7 @@ use Rattle.lists.specs.Sums.{all_to, in_group, group_size}
 use Rattle.lists.proofs.Sums.{fold_in, fold_out}
 use Rattle.lists.proofs.Listed.{get_d_listed, listed_same, listed_set, listed_of}
 use Rattle.lists.proofs.Tests.{and-false, and-true, impossible}
-use Rattle.lloyd_members.specs.Members.{same_group, moved_mark}
+use Rattle.lloyd_members.specs.Members.{same_group, moved_mark, mark_at}
 
 -- item i is in none of the k groups, or in one of them
 pub size_skip : (label : ℕ → ℕ) (i k : ℕ) → k ≤ label i → listed (group_size label i) k ≡ listed (group_size label (i + 1)) k
@@ -46,12 +46,11 @@ module _ (old labels : List ℕ) (i k : ℕ) where
 
   pub mark_skip : numbers old i ≡ numbers labels i → listed (moved_mark old labels i) k ≡ listed (moved_mark old labels (i + 1)) k
   mark_skip e =
-      listed_same 0 (moved_mark old labels i) (moved_mark old labels (i + 1)) k
+      listed_same false (moved_mark old labels i) (moved_mark old labels (i + 1)) k
       (λ l q. rw (same_next l, e, beq_same (eqb (numbers labels i) l), and-true (same_group old labels i l)))
 
   -- the marks of the two groups that an item leaves and joins
-  both : (l : ℕ) (p q s : Bool) → eqb l (numbers labels i) ≡ p → eqb l (numbers old i) ≡ q → (numbers old i ≡ numbers labels i → ⊥)
-      → ◌≡◌ {A = ℕ} (cond p 1 (cond q 1 (cond s 0 1))) (cond (s && stays l) 0 1)
+  both : (l : ℕ) (p q s : Bool) → eqb l (numbers labels i) ≡ p → eqb l (numbers old i) ≡ q → (numbers old i ≡ numbers labels i → ⊥) → p || (q || not s) ≡ not (s && stays l)
   both l true q s a b d =
       let x : l ≡ numbers labels i = eqb-true l (numbers labels i) a in
       rw (eq-eqb (numbers labels i) l (sym x), ne_eqb (numbers old i) l (λ e. d (e ∙ x)), and-false s)
@@ -61,36 +60,36 @@ module _ (old labels : List ℕ) (i k : ℕ) where
   both l false false s a b d =
       rw (ne_eqb (numbers old i) l (λ e. eqb-false l (numbers old i) b (sym e)), ne_eqb (numbers labels i) l (λ e. eqb-false l (numbers labels i) a (sym e)), and-true s)
 
-  pub mark_both : {marks : List ℕ} → marks ≡ listed (moved_mark old labels i) k → (numbers old i ≡ numbers labels i → ⊥) → {first second : List ℕ}
-      → first ≡ listed (λ j. cond (eqb j (numbers old i)) 1 (numbers marks j)) k → second ≡ listed (λ j. cond (eqb j (numbers labels i)) 1 (numbers first j)) k
+  pub mark_both : {marks : List Bool} → marks ≡ listed (moved_mark old labels i) k → (numbers old i ≡ numbers labels i → ⊥) → {first second : List Bool}
+      → first ≡ listed (λ j. eqb j (numbers old i) || mark_at marks j) k → second ≡ listed (λ j. eqb j (numbers labels i) || mark_at first j) k
       → second ≡ listed (moved_mark old labels (i + 1)) k
   mark_both {marks} e d {first} f g =
-      g ∙ listed_same 0 (λ j. cond (eqb j (numbers labels i)) 1 (numbers first j)) (moved_mark old labels (i + 1)) k
+      g ∙ listed_same false (λ j. eqb j (numbers labels i) || mark_at first j) (moved_mark old labels (i + 1)) k
       (λ l q.
-      let v : numbers marks l ≡ moved_mark old labels i l = ap (λ (x : List ℕ). numbers x l) e ∙ get_d_listed (moved_mark old labels i) k l 0 q in
-      let w : numbers first l ≡ cond (eqb l (numbers old i)) 1 (numbers marks l) = ap (λ (x : List ℕ). numbers x l) f ∙ get_d_listed (λ j. cond (eqb j (numbers old i)) 1 (numbers marks j)) k l 0 q in
+      let v : mark_at marks l ≡ moved_mark old labels i l = ap (λ (x : List Bool). mark_at x l) e ∙ get_d_listed (moved_mark old labels i) k l false q in
+      let w : mark_at first l ≡ (eqb l (numbers old i) || mark_at marks l) = ap (λ (x : List Bool). mark_at x l) f ∙ get_d_listed (λ j. eqb j (numbers old i) || mark_at marks j) k l false q in
       rw (w, v, same_next l) (both l (eqb l (numbers labels i)) (eqb l (numbers old i)) (same_group old labels i l) refl refl d))
 
 -- a mark at place l of a list, and where there is no such place
-pub marked : (xs : List ℕ) (l : ℕ) → l < length xs → set xs l 1 ≡ listed (λ j. cond (eqb j l) 1 (numbers xs j)) (length xs)
+pub marked : (xs : List Bool) (l : ℕ) → l < length xs → set xs l true ≡ listed (λ j. eqb j l || mark_at xs j) (length xs)
 marked xs l h =
-    listed_of 0 (λ j. cond (eqb j l) 1 (numbers xs j)) (length xs) (set xs l 1) (length-set xs l 1)
+    listed_of false (λ j. eqb j l || mark_at xs j) (length xs) (set xs l true) (length-set xs l true)
     (λ j q. by_cases (ℕ_discrete j l)
-    (λ e. rw e (get_or-set_same xs l 1 0 h ∙ rw (eq-eqb l l refl)))
-    (λ d. get_or-set_other xs l j 1 0 d ∙ rw (ne_eqb j l d)))
+    (λ e. rw e (get_or-set_same xs l true false h ∙ rw (eq-eqb l l refl)))
+    (λ d. get_or-set_other xs l j true false d ∙ rw (ne_eqb j l d)))
 
-pub not_marked : (xs : List ℕ) (l : ℕ) → length xs ≤ l → xs ≡ listed (λ j. cond (eqb j l) 1 (numbers xs j)) (length xs)
-not_marked xs l h = listed_of 0 (λ j. cond (eqb j l) 1 (numbers xs j)) (length xs) xs refl (λ j q. rw (ne_eqb j l (λ e. absurd (omega arith))) refl)
+pub not_marked : (xs : List Bool) (l : ℕ) → length xs ≤ l → xs ≡ listed (λ j. eqb j l || mark_at xs j) (length xs)
+not_marked xs l h = listed_of false (λ j. eqb j l || mark_at xs j) (length xs) xs refl (λ j q. rw (ne_eqb j l (λ e. absurd (omega arith))) refl)
 
 -- a group with members and without a mark has the same members as before
-unmarked : (z s : Bool) → not z && eqb (cond s 0 1) 0 ≡ true → (z ≡ false) × (s ≡ true)
+unmarked : (z s : Bool) → not z && not (not s) ≡ true → (z ≡ false) × (s ≡ true)
 unmarked true s h = absurd (impossible h)
 unmarked false true h = (refl, refl)
 unmarked false false h = absurd (impossible h)
 
-pub not_moved : (old labels : List ℕ) (m l : ℕ) {n mark : ℕ} → n ≡ group_size (numbers labels) m l → mark ≡ moved_mark old labels m l → not (eqb n 0) && eqb mark 0 ≡ true
+pub not_moved : (old labels : List ℕ) (m l : ℕ) {n : ℕ} {mark : Bool} → n ≡ group_size (numbers labels) m l → mark ≡ moved_mark old labels m l → not (eqb n 0) && not mark ≡ true
     → (group_size (numbers labels) m l ≡ 0 → ⊥) × (same_group old labels m l ≡ true)
 not_moved old labels m l {n} {mark} e f h =
-    let g : not (eqb (group_size (numbers labels) m l) 0) && eqb (moved_mark old labels m l) 0 ≡ true = rw (← e, ← f) h in
+    let g : not (eqb (group_size (numbers labels) m l) 0) && not (moved_mark old labels m l) ≡ true = rw (← e, ← f) h in
     let u = unmarked (eqb (group_size (numbers labels) m l) 0) (same_group old labels m l) g in
     (eqb-false (group_size (numbers labels) m l) 0 u.0, u.1)

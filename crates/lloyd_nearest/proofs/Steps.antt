@@ -1,15 +1,19 @@
--- One law for each step of a loop, and that the places found are below the count.
+-- One law for each step of a loop, that the places found are below the count, and labels compared as whole lists.
 use Prim.Native.Nat.{◌+◌, ◌<◌, ◌≤◌, suc, zero, ℕ}
 use mathlib.Core.Path.{◌∙◌, ◌≡◌, ap, refl, sym}
-use mathlib.Core.Bool.{Bool, cond, false, true}
-use mathlib.Core.List.{List}
+use mathlib.Core.Bool.{Bool, ◌&&◌, cond, false, true}
+use mathlib.Core.List.{List, [], ◌∷◌}
 use native.Mathlib.Omega.{arith}
 use native.Mathlib.Numerals.{add-one}
-use lib.ListN.{replicate}
+use lib.ListN.{length, replicate}
+use lib.Dec.{eqb}
+use lib.Pointwise.{pointwise}
 use lib.Ieee.{Float, fin, inf, lt, nan}
 use Rattle.lists.specs.Lists.{cells, listed, numbers}
+use Rattle.lists.specs.Sums.{all_to}
+use Rattle.lists.proofs.Tests.{and-true}
 use Rattle.lists.proofs.Listed.{get_d_listed, listed_const, listed_same}
-use Rattle.lloyd_nearest.specs.Nearest.{farther, farthest_to, nearest_to}
+use Rattle.lloyd_nearest.specs.Nearest.{farther, farthest_to, nearest_to, same_labels}
 use Rattle.lloyd_nearest.specs.declared.Best.{Best}
 
 -- the start: no group, and so no distance below +infinity
@@ -107,3 +111,22 @@ module _ (t : ℕ → Bool) (f : ℕ → Float) where
   unfolding farthest_to
   farthest_left zero = refl
   farthest_left (suc n) = rw (farthest_left n) (one_left (t n) (farthest_to t f n) (f n) n)
+
+-- a test of each place, split behind the first
+and_assoc : (p q r : Bool) → (p && q) && r ≡ p && (q && r)
+and_assoc true q r = refl
+and_assoc false q r = refl
+
+all_front : (p : ℕ → Bool) (n : ℕ) → all_to p (suc n) ≡ p 0 && all_to (λ k. p (suc k)) n
+unfolding all_to
+all_front p zero = sym (and-true (p 0))
+all_front p (suc n) = rw (all_front p n) (and_assoc (p 0) (all_to (λ k. p (suc k)) n) (p (suc n)))
+
+-- labels that are compared as whole lists
+pub labels_alike : (a b : List ℕ) → length a ≡ length b → pointwise eqb a b ≡ same_labels a b (length b)
+unfolding all_to
+labels_alike [] [] e = refl
+labels_alike [] (y ∷ ys) e = absurd (omega arith)
+labels_alike (x ∷ xs) [] e = absurd (omega arith)
+labels_alike (x ∷ xs) (y ∷ ys) e =
+    ap (λ (t : Bool). eqb x y && t) (labels_alike xs ys (omega arith)) ∙ sym (all_front (λ i. eqb (numbers (x ∷ xs) i) (numbers (y ∷ ys) i)) (length ys))

@@ -27,12 +27,10 @@ fn absorb(row: &[f64], l: usize, dists: &mut [f64], labels: &mut [usize])
     ensures dists_after { dists.new ≡ listed (λ i. cond (lt (cells row.now i) (cells dists.old i)) (cells row.now i) (cells dists.old i)) (length row.now) }
     ensures labels_after { labels.new ≡ listed (λ i. cond (lt (cells row.now i) (cells dists.old i)) l (numbers labels.old i)) (length row.now) }
 {
-    let n = row.len();
-    for i in 0..n {
-        let x = row[i];
+    for (i, x) in row.iter().enumerate() {
         let b = dists[i];
-        labels[i] = label_of(x, b, l, labels[i]);
-        dists[i] = lists::lesser(x, b);
+        labels[i] = label_of(*x, b, l, labels[i]);
+        dists[i] = lists::lesser(*x, b);
     }
 }
 
@@ -65,13 +63,12 @@ pub fn farthest(dists: &[f64]) -> usize
     requires { 0 < length dists.now }
     ensures { (result ≡ farthest_of dists.now) × (result < length dists.now) }
 {
-    let m = dists.len();
     let mut b = Best {
         value: -lists::infinity(),
         at: 0,
     };
-    for i in 0..m {
-        b = farther(b, dists[i], i);
+    for (i, x) in dists.iter().enumerate() {
+        b = farther(b, *x, i);
     }
     b.at
 }
@@ -81,11 +78,5 @@ pub fn same_labels(a: &[usize], b: &[usize]) -> bool
     requires { length a.now ≡ length b.now }
     ensures { result ≡ same_labels a.now b.now (length b.now) }
 {
-    let m = b.len();
-    for i in 0..m {
-        if a[i] != b[i] {
-            return false;
-        }
-    }
-    true
+    a == b
 }

@@ -11,6 +11,7 @@ use Rattle.std.proofs.Common.{Ok, Err}
 use lib.Dec.{eqb, ltb}
 use lib.Ieee.{Float}
 use Rattle.refusals.specs.Table.{Answer, number_of, refusal_of, Refusal, none, refused, whenever, unless, refusal, filled, worked, wiped}
+use Rattle.refusals.specs.declared.Cause.{Cause}
 use Rattle.refusals.specs.declared.Cause.TheVariants.{InvalidCorrelationMatrix, TooLarge, CellCount, ListLength, OutOfRange}
 use Rattle.lists.proofs.Tests.{impossible, neither, or-true}
 
@@ -92,3 +93,30 @@ done_none (Err TooLarge) h = absurd (omega arith)
 done_none (Err CellCount) h = absurd (omega arith)
 done_none (Err ListLength) h = absurd (omega arith)
 done_none (Err (OutOfRange k)) h = absurd (omega arith)
+
+-- a cause has a number other than 0
+pub err_number : (k : Cause) → number_of (Err k) ≡ 0 → ⊥
+err_number InvalidCorrelationMatrix h = omega arith
+err_number TooLarge h = omega arith
+err_number CellCount h = omega arith
+err_number ListLength h = omega arith
+err_number (OutOfRange k) h = omega arith
+
+-- what holds of the inputs once the checks answer Ok
+pub allowed : {cells n m : ℕ} {fits : Bool} {bad count : ℕ} → none ≡ refusal cells n m fits bad count → Accepted cells n m fits bad count
+allowed {cells} {n} {m} {fits} {bad} {count} is = accepted cells n m fits bad count (rw (← is) refl)
+
+-- the records of a call that answers Err, and of one that answers Ok
+pub err_filled : (k : Cause) {q : Refusal} (new old : List Float) → refusal_of (Err k) ≡ q → record { answer = refusal_of (Err k); out = old } ≡ filled q new old
+err_filled k {q} new old is = not_filled (Err k) q is new old (err_number k)
+
+pub ok_filled : {q : Refusal} {new out : List Float} (old : List Float) → none ≡ q → out ≡ new → record { answer = none; out = out } ≡ filled q new old
+ok_filled {q} {new} old is e = was_filled (Ok tt) q is new old refl e
+
+pub err_worked : (k : Cause) {q : Refusal} (new old : List Float) (m : ℕ) (floats : List Float) → refusal_of (Err k) ≡ q
+    → record { answer = refusal_of (Err k); out = old; floats = floats } ≡ worked q m new old floats
+err_worked k {q} new old m floats is = not_worked (Err k) q is new old m floats (err_number k)
+
+pub ok_worked : {q : Refusal} {new out left : List Float} (old : List Float) (m : ℕ) (floats : List Float) → none ≡ q → out ≡ new → left ≡ wiped m floats
+    → record { answer = none; out = out; floats = left } ≡ worked q m new old floats
+ok_worked {q} {new} old m floats is e l = was_worked (Ok tt) q is new old m floats refl e l

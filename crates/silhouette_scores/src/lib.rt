@@ -22,7 +22,7 @@ fn mark_of(count: usize) -> f64
 fn both_zero(a: f64, b: f64) -> bool
     ensures { result ≡ eq a zero64 && eq b zero64 }
 {
-    if a == 0.0 { b == 0.0 } else { false }
+    a == 0.0 && b == 0.0
 }
 
 fn larger(a: f64, b: f64) -> f64
@@ -35,12 +35,8 @@ fn larger(a: f64, b: f64) -> f64
 fn score_of(a: f64, b: f64) -> f64
     ensures { result ≡ scoring.score_of a b }
 {
-    let zero = 0.0;
-    if !lists::is_finite(b) {
-        return zero;
-    }
-    if both_zero(a, b) {
-        return zero;
+    if !lists::is_finite(b) || both_zero(a, b) {
+        return 0.0;
     }
     (b - a) / larger(a, b)
 }
@@ -51,9 +47,8 @@ fn add_others(row: &[f64], j: usize, sums: &mut [f64])
     ensures { sums.new ≡ set (listed (λ i. add binary64 (cells sums.old i) (cells row.now i)) (length sums.old)) j (cells sums.old j) }
 {
     let kept = sums[j];
-    let n = row.len();
-    for i in 0..n {
-        sums[i] = sums[i] + row[i];
+    for (i, x) in row.iter().enumerate() {
+        sums[i] = sums[i] + *x;
     }
     sums[j] = kept;
 }
@@ -68,8 +63,8 @@ fn add_members(across: &[f64], labels: &[usize], l: usize, sums: &mut [f64]) -> 
     sums.fill(0.0);
     let m = labels.len();
     let mut count = 0;
-    for j in 0..m {
-        if labels[j] != l {
+    for (j, x) in labels.iter().enumerate() {
+        if *x != l {
             continue;
         }
         let row = lists::row_of(across, m, j);
@@ -87,9 +82,8 @@ fn take_means(labels: &[usize], l: usize, count: usize, sums: &mut [f64], own: &
 {
     let others = lists::count_as_f64(count - 1);
     let mark = mark_of(count);
-    let m = labels.len();
-    for i in 0..m {
-        if labels[i] != l {
+    for (i, x) in labels.iter().enumerate() {
+        if *x != l {
             continue;
         }
         own[i] = sums[i] / others;
@@ -103,9 +97,8 @@ fn keep_least(sums: &[f64], count: usize, least: &mut [f64])
     ensures { least.new ≡ listed (λ i. lesser (div binary64 (cells sums.now i) (counted count)) (cells least.old i)) (length least.old) }
 {
     let c = lists::count_as_f64(count);
-    let n = sums.len();
-    for i in 0..n {
-        least[i] = lists::lesser(sums[i] / c, least[i]);
+    for (i, x) in sums.iter().enumerate() {
+        least[i] = lists::lesser(*x / c, least[i]);
     }
 }
 
@@ -136,9 +129,8 @@ fn finish(own: &[f64], scores: &mut [f64])
     requires { length own.now ≡ length scores.old }
     ensures { scores.new ≡ listed (λ i. scoring.score_of (cells own.now i) (cells scores.old i)) (length scores.old) }
 {
-    let n = own.len();
-    for i in 0..n {
-        scores[i] = score_of(own[i], scores[i]);
+    for (i, a) in own.iter().enumerate() {
+        scores[i] = score_of(*a, scores[i]);
     }
 }
 

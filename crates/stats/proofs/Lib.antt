@@ -1,3 +1,3 @@
--- What a program's tests on a double say.
-pub mod Floats
+-- Laws of a program's tests on a list, and of averages.
+pub mod All
 pub mod Averages

@@ -1,12 +1,11 @@
 -- The mean, the variance and the deviation of n values, given as an index function. Definitions only.
-use Rattle.std.specs.Prelude.{ℕ, ◌-◌, Bool, cond, not, ◌&&◌, ◌||◌, List, [], ◌∷◌, eqb, leb, ltb, Float}
+use Rattle.std.specs.Prelude.{ℕ, ◌-◌, Bool, cond, not, ◌&&◌, ◌||◌, List, [], ◌∷◌, eqb, leb, ltb, Option, Some, None, Result, Ok, Err, Float}
 use Rattle.std.specs.Float.Ieee.{is_nan, to_bits, div}
 use Rattle.std.specs.Float.{binary64}
 use Rattle.std.specs.Float.Ieee.Scale.{finite}
 use Rattle.lists.specs.Sums.{sum_to, all_to, counted, square_from}
 use Rattle.sqrt.specs.Root.{root}
-use Rattle.stats.specs.declared.Average.{Average}
-use Rattle.stats.specs.declared.Average.TheVariants.{Value, Empty, TooMany}
+use Rattle.stats.specs.declared.TooMany.{TooMany}
 
 -- x is a number with the bits of y
 abbrev pub same_bits : Float → Float → Bool
@@ -32,16 +31,18 @@ variance_of f n ddof = variance_about (exact_mean f n) f n ddof
 abbrev pub deviation_of : (ℕ → Float) → ℕ → ℕ → Float
 deviation_of f n ddof = root (variance_of f n ddof)
 
+abbrev pub Average : Type 0
+Average = Result (Option Float) TooMany
+
 -- the table's number for each answer, 0 where nothing is refused, and its values: none where there is no average
 abbrev pub number_of : Average → ℕ
-number_of (Value x) = 0
-number_of Empty = 0
-number_of TooMany = 4
+number_of (Ok x) = 0
+number_of (Err e) = 4
 
 abbrev pub values_of : Average → List Float
-values_of (Value x) = x ∷ []
-values_of Empty = []
-values_of TooMany = []
+values_of (Ok (Some x)) = x ∷ []
+values_of (Ok None) = []
+values_of (Err e) = []
 
 -- an answer as the table gives it
 pub record Averaged : Type 0 where

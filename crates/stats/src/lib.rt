@@ -8,23 +8,20 @@ ghost use Rattle.lists.specs.Sums as sums;
 ghost use Rattle.stats.specs.Average as average;
 ghost use Rattle.stats.specs.Average.{averaged_of};
 
-// What an average answers: its value, `Empty` where it has no value, or the refusal of over 65,536 values.
+// The refusal of over 65,536 values.
 #[derive(Drop)]
-pub enum Average {
-    Value(f64),
-    Empty,
-    TooMany,
-}
+pub struct TooMany;
+
+// What an average answers: its value, or none where it has none.
+pub type Average = Result<Option<f64>, TooMany>;
 
 // Whether x is a number with the bits of y, which is a number.
+#[tactic(auto, using(lists::proofs::Floats::finite_number))]
 fn same_bits(x: f64, y: f64) -> bool
     requires { finite y ≡ true }
     ensures { result ≡ average.same_bits x y }
 {
-    if x != x {
-        return false;
-    }
-    f64::to_bits(x) == f64::to_bits(y)
+    !x.is_nan() && x.to_bits() == y.to_bits()
 }
 
 // Whether each value has the bits of `first`, which is finite.
@@ -32,26 +29,17 @@ fn all_same(values: &[f64], first: f64) -> bool
     requires { finite first ≡ true }
     ensures { result ≡ sums.all_to (λ j. average.same_bits (cells values.now j) first) (length values.now) }
 {
-    let n = values.len();
-    for i in 0..n {
-        if same_bits(values[i], first) {} else {
-            return false;
-        }
-    }
-    true
+    values.iter().all(|x| same_bits(*x, first))
 }
 
 // Whether the first value is finite and each value has its bits.
+#[tactic(auto, using(std::proofs::lemmas::Bool::Decides::nat_tests), unfolding(crate::specs::Average::constant))]
 fn is_constant(values: &[f64]) -> bool
     requires { 0 < length values.now }
     ensures { result ≡ average.constant (cells values.now) (length values.now) }
 {
     let first = values[0];
-    if lists::is_finite(first) {
-        all_same(values, first)
-    } else {
-        false
-    }
+    lists::is_finite(first) && all_same(values, first)
 }
 
 // The mean of one value or more, at most 65,536. Inner form: 4 is asked by its callers.
@@ -70,26 +58,26 @@ fn sum_of_squares(values: &[f64], m: f64) -> f64
     ensures { result ≡ sums.sum_to (λ j. sums.square_from m (cells values.now j)) (length values.now) }
 {
     let mut sum = 0.0;
-    let n = values.len();
-    for i in 0..n {
-        let d = values[i] - m;
+    for x in values {
+        let d = *x - m;
         sum = sum + d * d;
     }
     sum
 }
 
-// The mean; `Empty` for an empty list.
+// The mean; none for an empty list.
+#[tactic(auto, using(std::proofs::lemmas::Bool::Decides::nat_tests), unfolding(crate::specs::Average::averaged))]
 pub fn mean(values: &[f64]) -> Average
     ensures { averaged_of result ≡ average.mean (cells values.now) (length values.now) }
 {
     let n = values.len();
     if 65536 < n {
-        return Average::TooMany;
+        return Err(TooMany);
     }
     if n == 0 {
-        return Average::Empty;
+        return Ok(None);
     }
-    Average::Value(mean_value(values))
+    Ok(Some(mean_value(values)))
 }
 
 // The squares of the differences from m, summed, over n - ddof, of more than ddof values, at most 65,536. Inner form: 4 is asked by its
@@ -111,29 +99,23 @@ fn variance_value(values: &[f64], ddof: usize) -> f64
 }
 
 // The squared differences from the mean, summed, over n - ddof; none where n is 0 or at most ddof.
+#[tactic(auto, using(std::proofs::lemmas::Bool::Decides::nat_tests), unfolding(crate::specs::Average::averaged))]
 pub fn variance(values: &[f64], ddof: usize) -> Average
     ensures { averaged_of result ≡ average.variance (cells values.now) (length values.now) ddof }
 {
     let n = values.len();
     if 65536 < n {
-        return Average::TooMany;
-    }
-    if n == 0 {
-        return Average::Empty;
+        return Err(TooMany);
     }
     if n <= ddof {
-        return Average::Empty;
+        return Ok(None);
     }
-    Average::Value(variance_value(values, ddof))
+    Ok(Some(variance_value(values, ddof)))
 }
 
 // The root of the variance, where there is one.
 pub fn std_dev(values: &[f64], ddof: usize) -> Average
     ensures { averaged_of result ≡ average.deviation (cells values.now) (length values.now) ddof }
 {
-    match variance(values, ddof) {
-        Average::Value(v) => Average::Value(sqrt::sqrt(v)),
-        Average::Empty => Average::Empty,
-        Average::TooMany => Average::TooMany,
-    }
+    Ok(variance(values, ddof)?.map(sqrt::sqrt))
 }

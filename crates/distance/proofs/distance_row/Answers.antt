@@ -1,20 +1,17 @@
 use mathlib.Core.Path.{◌∙◌, ap, refl}
 use native.Mathlib.Omega.{arith}
-use lib.ListN.{length-set}
 use lib.Ieee.{nan}
-use Rattle.distance.specs.Distance.{dist_at, distance_of}
 use Rattle.lists.proofs.Listed.{writes, writes_done, writes_one}
+use Rattle.distance.specs.Distance.{dist_at, distance_of}
 use Rattle.distance.proofs.distance_row.Goals as goal
 
 pub loop-j-init : goal.loop-j-init
 unfolding writes
-loop-j-init c = (refl, omega arith, c.requires.2, refl)
+loop-j-init c = refl
 
 pub loop-j-preserved : goal.loop-j-preserved
 unfolding dist_at
-loop-j-preserved c =
-    let h = c.loop-j.invariant in
-    (h.0, omega (arith, c.loop-j-test.true), simp length-set h.2, writes_one _ _ _ h.3 (c.distance.ensures ∙ ap distance_of c.cell_at.ensures))
+loop-j-preserved c = writes_one _ _ _ c.loop-j.invariant (c.distance.ensures ∙ ap distance_of c.cell_at.ensures)
 
 pub returns : goal.returns
-returns c = writes_done nan _ _ _ _ c.loop-j.invariant.3 (omega arith) c.requires.2
+returns c = writes_done nan _ _ _ _ c.loop-j.invariant (omega arith) c.requires.2

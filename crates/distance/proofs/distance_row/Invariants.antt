@@ -1,9 +1,7 @@
-use Prim.Native.Nat.{◌≤◌}
 use mathlib.Core.Path.{◌≡◌}
-use lib.ListN.{length}
 use Rattle.distance.specs.Distance.{dist_at}
 use Rattle.lists.proofs.Listed.{writes}
 use Rattle.distance.proofs.distance_row.Given as goal
 
 abbrev pub invariant-loop-j : goal.invariant-loop-j
-invariant-loop-j l = (l.m ≡ length l.rows) × (l.j ≤ l.m) × (length l.out ≡ l.m) × (l.out ≡ writes (dist_at l.book l.n l.rows l.i) l.j l.initial.out)
+invariant-loop-j l = l.out ≡ writes (dist_at l.book l.n l.rows l.i) l.j l.initial.out

@@ -1,22 +1,21 @@
-use Prim.Native.Nat.{◌*◌}
-use mathlib.Core.Path.{◌∙◌, sym}
-use native.Mathlib.Omega.{arith}
-use lib.ListN.{length}
+use Rattle.std.proofs.Common.{◌*◌, length, arith}
+use Rattle.std.proofs.lemmas.Result.{err_from_is_err_and}
 use borrow.Author.Tests.{eqb-true}
-use Rattle.refusals.proofs.Laws.{accepted, not_filled, passed, was_filled}
+use Rattle.refusals.proofs.Laws.{allowed, err_filled, ok_filled}
 use Rattle.distance.specs.Leaves.{submatrix_of}
 use Rattle.distance.proofs.Laws.{readable}
 use Rattle.distance.proofs.submatrix.Goals as goal
 
-pub returns-then-number_of-ne0 : goal.returns-then-number_of-ne0
+pub returns-in_err-check_rows : goal.returns-in_err-check_rows
 unfolding submatrix_of
-returns-then-number_of-ne0 c = not_filled c.check_rows-answer.result _ c.check_rows-answer.ensures _ _ (λ e. c.if-number_of-ne0.true (c.number_of.ensures ∙ e))
+returns-in_err-check_rows c =
+    let p = err_from_is_err_and c.from_residual.result c.from_residual.ensures.1 in rw (p.1, p.2) (err_filled _ _ _ c.in_err-check_rows.ensures)
 
 pub fill_cells-requires : goal.fill_cells-requires
 fill_cells-requires c =
-    let a = accepted _ _ _ _ _ _ (passed c.check_rows-answer.result c.check_rows-answer.ensures (sym c.number_of.ensures ∙ c.if-number_of-ne0.false)) in
+    let a = allowed c.in_ok-check_rows.ensures in
     (readable c.args.book.now c.args.n c.args.rows.now _ a, omega (arith, a.two_read), eqb-true (length c.args.out.now) (length c.args.rows.now * length c.args.rows.now) a.fitting)
 
 pub returns : goal.returns
 unfolding submatrix_of
-returns c = was_filled c.check_rows-answer.result _ c.check_rows-answer.ensures _ _ (sym c.number_of.ensures ∙ c.if-number_of-ne0.false) c.fill_cells.ensures
+returns c = ok_filled _ c.in_ok-check_rows.ensures c.fill_cells.ensures

@@ -7,7 +7,7 @@ pub add_fours-c-requires : goal.add_fours-c-requires
 unfolding of_bits
 add_fours-c-requires c =
     let p = c.requires in
-    let e = no_column c.args.own.now c.args.across.now c.args.from c.fill.ensures p.sums_length in
+    let e = no_column c.args.own.now c.args.across.now c.args.from (c.fill.ensures.after (λ y e. e)) p.sums_length in
     record {
       tail = record { few = p.few; square = p.square; within = p.within; sums_length = listed_length _ _ e };
       sums_value = e;

@@ -1,21 +1,25 @@
-use Prim.Native.Nat.{min}
-use mathlib.Core.Path.{◌≡◌, refl}
-use native.Mathlib.Omega.{arith}
-use lib.ListN.{length}
-use lib.Ieee.{of_bits}
-use borrow.Author.Rules.{rules}
+use Rattle.std.proofs.Common.{◌≡◌, length, length-append, min, refl, rules}
+use Rattle.std.proofs.lemmas.Slice.Zip.{zip_turn, zip_end}
+use lib.Ieee.{nan, of_bits}
 use Rattle.lists.specs.Sums.{sum_to}
 use Rattle.lists.proofs.Sums.{sum_more}
 use Rattle.distance_squared.specs.Leaves.{squared_distance}
 use Rattle.distance_squared.proofs.squared_distance.Goals as goal
 
-pub loop-c-init : goal.loop-c-init
+pub loop-x-init : goal.loop-x-init
 unfolding sum_to of_bits
-loop-c-init c = (c.shorter-n.ensures, search rules, refl)
+loop-x-init c = refl
 
-pub loop-c-preserved : goal.loop-c-preserved
-loop-c-preserved c = (search rules, search rules, sum_more _ _ c.loop-c.invariant.2)
+pub loop-x-preserved : goal.loop-x-preserved
+loop-x-preserved c =
+    let t =
+    zip_turn c.args.a.now c.args.b.now c.loop-x.yielded _ c.loop-x.x-iterator c.next.new.self c.next.result (search rules) (search rules) c.loop-x.yielded_by (c.in-Some.x, c.in-Some.y)
+    c.in-Some.is c.next.ensures.steps in
+    rw (t.2 nan, t.3 nan) (simp length-append (sum_more _ _ c.loop-x.invariant))
 
 pub returns : goal.returns
 unfolding squared_distance
-returns c = let e : c.loop-c.c ≡ min (length c.args.a.now) (length c.args.b.now) = omega arith in cc
+returns c =
+    let e : length c.loop-x.yielded ≡ min (length c.args.a.now) (length c.args.b.now) =
+    zip_end c.args.a.now c.args.b.now c.loop-x.yielded _ c.loop-x.x-iterator c.next.new.self c.next.result (search rules) (search rules) c.loop-x.yielded_by c.in-None.is c.next.ensures.steps in
+    cc

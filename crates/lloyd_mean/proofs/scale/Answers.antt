@@ -1,20 +1,17 @@
 use mathlib.Core.Path.{refl}
 use native.Mathlib.Omega.{arith}
-use lib.ListN.{length-set}
-use lib.Ieee.{nan, of_bits}
-use borrow.Author.Rules.{rules}
-use Rattle.lists.proofs.Listed.{writes, writes_done, writes_next, writes_one}
+use lib.Ieee.{binary64, div, mul, nan, of_bits}
+use Rattle.lists.specs.Sums.{one64}
+use Rattle.lists.proofs.Listed.{writes, writes_done, writes_step}
 use Rattle.lloyd_mean.proofs.scale.Goals as goal
 
-pub loop-i-init : goal.loop-i-init
+pub loop-x-init : goal.loop-x-init
 unfolding writes
-loop-i-init c = (refl, omega arith, refl, refl, refl)
+loop-x-init c = refl
 
-pub loop-i-preserved : goal.loop-i-preserved
+pub loop-x-preserved : goal.loop-x-preserved
 unfolding of_bits
-loop-i-preserved c =
-    let h = c.loop-i.invariant.4 in
-    (refl, omega arith, simp length-set (search rules), refl, writes_one _ _ _ h (rw (writes_next nan _ _ _ h) refl))
+loop-x-preserved c = writes_step nan (λ x k. mul binary64 x (div binary64 one64 c.args.count)) c.loop-x.x-index c.args.out.now c.loop-x.invariant
 
 pub returns : goal.returns
-returns c = writes_done nan _ _ _ _ c.loop-i.invariant.4 (omega arith) (omega arith)
+returns c = writes_done nan _ _ _ _ c.loop-x.invariant (omega arith) refl

@@ -1,4 +1,3 @@
-use Prim.Native.Nat.{◌≤◌}
 use mathlib.Core.Path.{◌≡◌}
 use lib.ListN.{length}
 use Rattle.lists.specs.Sums.{sum_if, in_group}
@@ -6,6 +5,4 @@ use Rattle.lists.specs.Lists.{cell_at, listed, numbers}
 use Rattle.lloyd_mean.proofs.sum_members.Given as goal
 
 abbrev pub invariant-loop-i : goal.invariant-loop-i
-invariant-loop-i l =
-    (l.m ≡ length l.labels) × (l.i ≤ l.m) × (length l.out ≡ l.m)
-    × (l.out ≡ listed (λ j. sum_if (in_group (numbers l.labels) l.l) (λ k. cell_at l.points l.m k j) l.i) l.m)
+invariant-loop-i l = l.out ≡ listed (λ j. sum_if (in_group (numbers l.labels) l.l) (λ k. cell_at l.points (length l.labels) k j) l.i) (length l.labels)

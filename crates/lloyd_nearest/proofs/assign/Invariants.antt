@@ -1,12 +1,9 @@
-use Prim.Native.Nat.{◌≤◌}
 use mathlib.Core.Path.{◌≡◌}
-use lib.ListN.{length}
 use Rattle.lists.specs.Lists.{cells, listed, row}
 use Rattle.lloyd_nearest.specs.Nearest.{nearest_to}
 use Rattle.lloyd_nearest.proofs.assign.Given as goal
 
 abbrev pub invariant-loop-l : goal.invariant-loop-l
 invariant-loop-l l =
-    (l.l ≤ l.k) × (length l.dists ≡ l.m) × (length l.labels ≡ l.m)
-    × (l.dists ≡ listed (λ i. (nearest_to (λ j. cells (row l.table l.m j) i) l.l).value) l.m)
+    (l.dists ≡ listed (λ i. (nearest_to (λ j. cells (row l.table l.m j) i) l.l).value) l.m)
     × (l.labels ≡ listed (λ i. (nearest_to (λ j. cells (row l.table l.m j) i) l.l).at) l.m)

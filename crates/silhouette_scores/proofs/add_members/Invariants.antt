@@ -1,5 +1,4 @@
 use lib.ListN.{length}
-use Prim.Native.Nat.{◌≤◌}
 use mathlib.Core.Path.{◌≡◌}
 use Rattle.lists.specs.Sums.{group_size}
 use Rattle.lists.specs.Lists.{listed, numbers}
@@ -7,4 +6,4 @@ use Rattle.silhouette_scores.proofs.Members.{sums_to}
 use Rattle.silhouette_scores.proofs.add_members.Given as goal
 
 abbrev pub invariant-loop-j : goal.invariant-loop-j
-invariant-loop-j l = (l.m ≡ length l.labels) × (l.j ≤ l.m) × (length l.sums ≡ l.m) × (l.sums ≡ listed (sums_to l.across l.labels l.l l.j) (length l.labels)) × (l.count ≡ group_size (numbers l.labels) l.j l.l)
+invariant-loop-j l = (l.sums ≡ listed (sums_to l.across l.labels l.l l.j) (length l.labels)) × (l.count ≡ group_size (numbers l.labels) l.j l.l)

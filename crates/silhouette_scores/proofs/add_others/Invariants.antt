@@ -1,10 +1,8 @@
-use Prim.Native.Nat.{◌≤◌}
 use mathlib.Core.Path.{◌≡◌}
-use lib.ListN.{length}
 use lib.Ieee.{add, binary64}
 use Rattle.lists.specs.Lists.{cells}
 use Rattle.lists.proofs.Listed.{writes}
 use Rattle.silhouette_scores.proofs.add_others.Given as goal
 
 abbrev pub invariant-loop-i : goal.invariant-loop-i
-invariant-loop-i l = (l.n ≡ length l.row) × (l.i ≤ l.n) × (length l.sums ≡ l.n) × (l.sums ≡ writes (λ k. add binary64 (cells l.initial.sums k) (cells l.row k)) l.i l.initial.sums)
+invariant-loop-i l = l.sums ≡ writes (λ k. add binary64 (cells l.initial.sums k) (cells l.row k)) l.i l.initial.sums

@@ -1,8 +1,6 @@
 use mathlib.Core.Path.{◌∙◌, ap, refl}
 use native.Mathlib.Omega.{arith}
-use lib.ListN.{length-set}
 use lib.Ieee.{nan}
-use borrow.Author.Rules.{rules}
 use Rattle.lists.specs.Lists.{cells}
 use Rattle.lists.proofs.Listed.{writes, writes_done, writes_next, writes_one}
 use Rattle.silhouette_scores.specs.Scores.{score_of}
@@ -10,12 +8,12 @@ use Rattle.silhouette_scores.proofs.finish.Goals as goal
 
 pub loop-i-init : goal.loop-i-init
 unfolding writes
-loop-i-init c = (refl, search rules, search rules, refl)
+loop-i-init c = refl
 
 pub loop-i-preserved : goal.loop-i-preserved
 loop-i-preserved c =
-    let h = c.loop-i.invariant.3 in
-    (search rules, search rules, simp length-set (search rules), writes_one _ _ _ h (c.score_of.ensures ∙ ap (score_of (cells c.args.own.now c.loop-i.i)) (writes_next nan _ _ _ h)))
+    let h = c.loop-i.invariant in
+    writes_one _ _ _ h (c.score_of.ensures ∙ ap (score_of (cells c.args.own.now c.loop-i.i)) (writes_next nan _ _ _ h))
 
 pub returns : goal.returns
-returns c = writes_done nan _ _ _ _ c.loop-i.invariant.3 (omega arith) refl
+returns c = writes_done nan _ _ _ _ c.loop-i.invariant (omega arith) refl

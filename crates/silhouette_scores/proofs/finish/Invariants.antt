@@ -1,10 +1,8 @@
-use Prim.Native.Nat.{◌≤◌}
 use mathlib.Core.Path.{◌≡◌}
-use lib.ListN.{length}
 use Rattle.lists.specs.Lists.{cells}
 use Rattle.lists.proofs.Listed.{writes}
 use Rattle.silhouette_scores.specs.Scores.{score_of}
 use Rattle.silhouette_scores.proofs.finish.Given as goal
 
 abbrev pub invariant-loop-i : goal.invariant-loop-i
-invariant-loop-i l = (l.n ≡ length l.own) × (l.i ≤ l.n) × (length l.scores ≡ l.n) × (l.scores ≡ writes (λ k. score_of (cells l.own k) (cells l.initial.scores k)) l.i l.initial.scores)
+invariant-loop-i l = l.scores ≡ writes (λ k. score_of (cells l.own k) (cells l.initial.scores k)) l.i l.initial.scores

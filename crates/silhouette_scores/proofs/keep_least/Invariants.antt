@@ -1,6 +1,4 @@
-use Prim.Native.Nat.{◌≤◌}
 use mathlib.Core.Path.{◌≡◌}
-use lib.ListN.{length}
 use lib.Ieee.{binary64, div}
 use Rattle.lists.specs.Sums.{counted, lesser}
 use Rattle.lists.specs.Lists.{cells}
@@ -8,4 +6,4 @@ use Rattle.lists.proofs.Listed.{writes}
 use Rattle.silhouette_scores.proofs.keep_least.Given as goal
 
 abbrev pub invariant-loop-i : goal.invariant-loop-i
-invariant-loop-i l = (l.n ≡ length l.sums) × (l.i ≤ l.n) × (length l.least ≡ l.n) × (l.least ≡ writes (λ k. lesser (div binary64 (cells l.sums k) (counted l.count)) (cells l.initial.least k)) l.i l.initial.least)
+invariant-loop-i l = l.least ≡ writes (λ k. lesser (div binary64 (cells l.sums k) (counted l.count)) (cells l.initial.least k)) l.i l.initial.least

@@ -1,6 +1,5 @@
 use mathlib.Core.Path.{◌∙◌, ap, refl}
 use native.Mathlib.Omega.{arith}
-use lib.ListN.{length-set}
 use lib.Ieee.{Float, binary64, div, nan}
 use borrow.Author.Tests.{eq-eqb, ne_eqb}
 use Rattle.lists.specs.Lists.{cells}
@@ -9,26 +8,22 @@ use Rattle.silhouette_scores.proofs.take_means.Goals as goal
 
 pub loop-i-init : goal.loop-i-init
 unfolding writes
-loop-i-init c = (refl, omega arith, c.requires.1, c.requires.2, refl, refl)
+loop-i-init c = (refl, refl)
 
-pub loop-i-preserved-then-labels-i : goal.loop-i-preserved-then-labels-i
-loop-i-preserved-then-labels-i c =
+pub loop-i-preserved-then-x-l : goal.loop-i-preserved-then-x-l
+loop-i-preserved-then-x-l c =
     let h = c.loop-i.invariant in
-    (h.0, omega arith, h.2, h.3, writes_keep nan _ _ _ h.4 (rw (ne_eqb _ _ c.if-labels-i.true)), writes_keep nan _ _ _ h.5 (rw (ne_eqb _ _ c.if-labels-i.true)))
+    (writes_keep nan _ _ _ h.0 (rw (ne_eqb _ _ c.if-x-l.true)), writes_keep nan _ _ _ h.1 (rw (ne_eqb _ _ c.if-x-l.true)))
 
 pub loop-i-preserved : goal.loop-i-preserved
 loop-i-preserved c =
     let h = c.loop-i.invariant in (
-      h.0,
-      omega arith,
-      simp length-set h.2,
-      simp length-set h.3,
-      writes_one _ _ _ h.4 (c.mark_of-mark.ensures ∙ rw (eq-eqb _ _ c.if-labels-i.false)),
-      writes_one _ _ _ h.5 (ap (λ (x : Float). div binary64 x c.count_as_f64-others.result) (writes_next nan _ _ _ h.4) ∙ ap (λ (x : Float). div binary64 (cells c.args.sums.now c.loop-i.i) x) c.count_as_f64-others.ensures ∙ rw (eq-eqb _ _ c.if-labels-i.false)),
+      writes_one _ _ _ h.0 (c.mark_of-mark.ensures ∙ rw (eq-eqb _ _ c.if-x-l.false)),
+      writes_one _ _ _ h.1 (ap (λ (x : Float). div binary64 x c.count_as_f64-others.result) (writes_next nan _ _ _ h.0) ∙ ap (λ (x : Float). div binary64 (cells c.args.sums.now c.loop-i.i) x) c.count_as_f64-others.ensures ∙ rw (eq-eqb _ _ c.if-x-l.false)),
     )
 
 pub returns : goal.returns
 returns c = record {
-  own_after = writes_done nan _ _ _ _ c.loop-i.invariant.5 (omega arith) c.requires.2;
-  sums_after = writes_done nan _ _ _ _ c.loop-i.invariant.4 (omega arith) c.requires.1;
+  own_after = writes_done nan _ _ _ _ c.loop-i.invariant.1 (omega arith) c.requires.2;
+  sums_after = writes_done nan _ _ _ _ c.loop-i.invariant.0 (omega arith) c.requires.1;
 }
