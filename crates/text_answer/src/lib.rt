@@ -9,6 +9,9 @@ ghost use Rattle.text_answer.specs.Answer.{line_text, sizes_text, grouped_text, 
 
 use text_written::{ListLength, Written};
 
+// The bytes that a list to write to has at least.
+const ROOM: usize = 1024;
+
 // Each `put_` function below writes from a place on, and answers the place behind what it wrote.
 // The labels as a line, in decimal.
 fn put_labels(out: &mut [u8], at: usize, labels: &[usize]) -> usize
@@ -81,7 +84,7 @@ fn put_refused(out: &mut [u8], number: u64, place: u64) -> usize
 fn grouping_fits(labels: usize, scores: usize, out: usize) -> bool
     ensures { result ≡ leb labels most_names && (eqb scores labels && leb room out) }
 {
-    labels <= 12 && scores == labels && out >= 1024
+    labels <= 12 && scores == labels && out >= ROOM
 }
 
 // Writes a grouping to the front of out, as three lines: sizes, labels, scores by their bits. The labels are written as
@@ -107,7 +110,7 @@ pub fn write_refusal(number: usize, place: usize, out: &mut [u8]) -> Written
     ensures { record { refused = refusal_of result; count = bytes_of result; out = out.new }
         ≡ written_of (refusal_fits out.old) (refused_text number place) out.old }
 {
-    if out.len() < 1024 {
+    if out.len() < ROOM {
         return Err(ListLength);
     }
     Ok(put_refused(out, number as u64, place as u64))
