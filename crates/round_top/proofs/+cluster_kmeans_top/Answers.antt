@@ -58,13 +58,13 @@ end_round-g-requires t c =
 pub returns-in_err-start : goal.returns-in_err-start
 returns-in_err-start t c =
     let y = err_from_is_err_and c.from_residual.result c.from_residual.ensures.1 in
-    rw (y.1, y.2) (refused_law _ _ _ _ _ _ _ _ _ _ _ c.requires c.if-left-eq0.false _ _ _ c.start_round.ensures c.in_err-start.field-0 c.in_err-start.was)
+    rw (y.1, y.2) (refused_law _ _ _ _ _ _ _ _ _ _ _ c.requires c.if-left-eq0.false _ _ _ c.start_round.ensures _ c.in_err-start.was)
 
 pub returns-in_err-inner : goal.returns-in_err-inner
 returns-in_err-inner t c =
     let s = started_law _ _ _ _ _ _ _ _ _ _ _ c.requires c.if-left-eq0.false _ _ _ c.start_round.ensures c.in_ok-start.start.groups c.in_ok-start.start.weak c.in_ok-start.start.items c.in_ok-start.start.source c.in_ok-start.was in
     let y = err_from_is_err_and c.from_residual-in_err-inner.result c.from_residual-in_err-inner.ensures.1 in
-    rw (y.1, y.2) (stopped_law _ _ _ _ _ _ _ _ _ _ _ c.requires c.if-left-eq0.false _ _ _ c.start_round.ensures c.in_ok-start.start.groups c.in_ok-start.start.weak c.in_ok-start.start.items c.in_ok-start.start.source s c.if-weak-le2.false c.start_round.auto.wi c.start_round.auto.wf c.cluster_kmeans_top.result c.cluster_kmeans_top.new.order c.cluster_kmeans_top.new.sizes c.cluster_kmeans_top.new.scores c.cluster_kmeans_top.new.wi c.cluster_kmeans_top.new.wf c.cluster_kmeans_top.ensures c.cluster_kmeans_top.auto.order c.cluster_kmeans_top.auto.sizes c.cluster_kmeans_top.auto.scores c.cluster_kmeans_top.auto.wi c.cluster_kmeans_top.auto.wf c.in_err-inner.field-0 c.in_err-inner.was)
+    rw (y.1, y.2) (stopped_law _ _ _ _ _ _ _ _ _ _ _ c.requires c.if-left-eq0.false _ _ _ c.start_round.ensures c.in_ok-start.start.groups c.in_ok-start.start.weak c.in_ok-start.start.items c.in_ok-start.start.source s c.if-weak-le2.false c.start_round.auto.wi c.start_round.auto.wf c.cluster_kmeans_top.result c.cluster_kmeans_top.new.order c.cluster_kmeans_top.new.sizes c.cluster_kmeans_top.new.scores c.cluster_kmeans_top.new.wi c.cluster_kmeans_top.new.wf c.cluster_kmeans_top.ensures c.cluster_kmeans_top.auto.order c.cluster_kmeans_top.auto.sizes c.cluster_kmeans_top.auto.scores c.cluster_kmeans_top.auto.wi c.cluster_kmeans_top.auto.wf _ c.in_err-inner.was)
 
 pub returns : goal.returns
 returns t c =
