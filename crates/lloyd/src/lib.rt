@@ -4,7 +4,7 @@
 // Inner forms, all functions here.
 #![tactic(auto)]
 
-ghost use Rattle.std.specs.Prelude.{◌≡◌, ◌*◌, length, take};
+ghost use Rattle.std.specs.Prelude.{◌≡◌, ◌≤◌, ◌*◌, length, take};
 ghost use Rattle.distance_columns.specs.Columns.{points_at};
 ghost use Rattle.lloyd_table.specs.Area.{Held, Centres};
 ghost use Rattle.lloyd.specs.Result.{After, LloydResult};
@@ -59,31 +59,22 @@ fn lloyd_with(
     run(area, centres, labels, fresh, dists, sums)
 }
 
-// The groups of the m items, from the items `centres` as first centroids. The pass that changes no label ends it; after 300 passes it is cut.
-// Inner form, for the rounds. The table holds anything, before the call and after it.
-pub fn lloyd_in(area: &mut [f64], m: usize, centres: &[usize], labels: &mut [usize]) -> Ended
+// The same, with lists of its own to work in, N places each.
+fn lloyd_on<const N: usize>(
+    area: &mut [f64],
+    m: usize,
+    centres: &[usize],
+    labels: &mut [usize],
+) -> Ended
     requires held { Held area.old m }
     requires centres { Centres centres.now m × (length labels.old ≡ m) }
+    requires room { (m ≤ N) × (N ≤ 256) }
     ensures lloyd_result { LloydResult (points_at area.old m) m centres.now result labels.new }
     ensures area_unchanged { take (4 * (m * m)) area.new ≡ take (4 * (m * m)) area.old }
 {
-    if m <= 32 {
-        let mut fresh = lists::buffer::<usize, 32>(0);
-        let mut dists = lists::buffer::<f64, 32>(0.0);
-        let mut sums = lists::buffer::<f64, 32>(0.0);
-        return lloyd_with(
-            area,
-            m,
-            centres,
-            labels,
-            &mut fresh[..m],
-            &mut dists[..m],
-            &mut sums[..m],
-        );
-    }
-    let mut fresh = lists::buffer::<usize, 256>(0);
-    let mut dists = lists::buffer::<f64, 256>(0.0);
-    let mut sums = lists::buffer::<f64, 256>(0.0);
+    let mut fresh = lists::buffer::<usize, N>(0);
+    let mut dists = lists::buffer::<f64, N>(0.0);
+    let mut sums = lists::buffer::<f64, N>(0.0);
     lloyd_with(
         area,
         m,
@@ -93,4 +84,18 @@ pub fn lloyd_in(area: &mut [f64], m: usize, centres: &[usize], labels: &mut [usi
         &mut dists[..m],
         &mut sums[..m],
     )
+}
+
+// The groups of the m items, from the items `centres` as first centroids. The pass that changes no label ends it; after 300 passes it is cut.
+// Inner form, for the rounds. The table holds anything, before the call and after it.
+pub fn lloyd_in(area: &mut [f64], m: usize, centres: &[usize], labels: &mut [usize]) -> Ended
+    requires held { Held area.old m }
+    requires centres { Centres centres.now m × (length labels.old ≡ m) }
+    ensures lloyd_result { LloydResult (points_at area.old m) m centres.now result labels.new }
+    ensures area_unchanged { take (4 * (m * m)) area.new ≡ take (4 * (m * m)) area.old }
+{
+    if m <= 32 {
+        return lloyd_on::<32>(area, m, centres, labels);
+    }
+    lloyd_on::<256>(area, m, centres, labels)
 }

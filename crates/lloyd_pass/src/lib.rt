@@ -18,13 +18,10 @@ pub enum Ended {
 }
 
 // Whether a group of n members keeps its row: it has members, and no item joined or left it.
-fn keeps_row(n: usize, mark: usize) -> bool
-    ensures { result ≡ not (eqb n 0) && eqb mark 0 }
+fn keeps_row(n: usize, moved: bool) -> bool
+    ensures { result ≡ not (eqb n 0) && not moved }
 {
-    if n == 0 {
-        return false;
-    }
-    mark == 0
+    n != 0 && !moved
 }
 
 // The table for the next k centroids. The row of a group whose members are the same is kept; `sizes` and `marks` are lists to work in.
@@ -36,7 +33,7 @@ fn refresh_rows(
     dists: &mut [f64],
     sums: &mut [f64],
     sizes: &mut [usize],
-    marks: &mut [usize],
+    marks: &mut [bool],
 )
     requires held { Held area.old (length labels.now) }
     requires len { (length old.now ≡ length labels.now) × (k ≤ length labels.now) × (length dists.old ≡ length labels.now) × (length sums.old ≡ length labels.now)
@@ -56,7 +53,38 @@ fn refresh_rows(
     }
 }
 
-// The same, with sizes and marks of its own. `dists`, `sums` and the rows of the table behind the k-th are left with anything.
+// The same, with sizes and marks of its own, N of each.
+fn refresh_on<const N: usize>(
+    area: &mut [f64],
+    old: &[usize],
+    labels: &[usize],
+    k: usize,
+    dists: &mut [f64],
+    sums: &mut [f64],
+)
+    requires held { Held area.old (length labels.now) }
+    requires len { (length old.now ≡ length labels.now) × (k ≤ length labels.now) × (length dists.old ≡ length labels.now) × (length sums.old ≡ length labels.now)
+        × (length labels.now ≤ N) × (N ≤ 256) }
+    requires by_index { (l : ℕ) → l < k → Kept (points_at area.old (length labels.now)) area.old old.now labels.now (length labels.now) l }
+    ensures table { Table area.new (length labels.now) k (points_at area.old (length labels.now)) (moved (points_at area.old (length labels.now)) (numbers labels.now) (cells dists.old) (length labels.now)) }
+    ensures area_unchanged { take (4 * (length labels.now * length labels.now)) area.new ≡ take (4 * (length labels.now * length labels.now)) area.old }
+{
+    let m = labels.len();
+    let mut sizes = lists::buffer::<usize, N>(0);
+    let mut marks = lists::buffer::<bool, N>(false);
+    refresh_rows(
+        area,
+        old,
+        labels,
+        k,
+        dists,
+        sums,
+        &mut sizes[..m],
+        &mut marks[..m],
+    );
+}
+
+// The same, with a short list or a long one. `dists`, `sums` and the rows of the table behind the k-th are left with anything.
 pub fn refresh(
     area: &mut [f64],
     old: &[usize],
@@ -71,34 +99,11 @@ pub fn refresh(
     ensures table { Table area.new (length labels.now) k (points_at area.old (length labels.now)) (moved (points_at area.old (length labels.now)) (numbers labels.now) (cells dists.old) (length labels.now)) }
     ensures area_unchanged { take (4 * (length labels.now * length labels.now)) area.new ≡ take (4 * (length labels.now * length labels.now)) area.old }
 {
-    let m = labels.len();
-    if m <= 32 {
-        let mut sizes = lists::buffer::<usize, 32>(0);
-        let mut marks = lists::buffer::<usize, 32>(0);
-        refresh_rows(
-            area,
-            old,
-            labels,
-            k,
-            dists,
-            sums,
-            &mut sizes[..m],
-            &mut marks[..m],
-        );
+    if labels.len() <= 32 {
+        refresh_on::<32>(area, old, labels, k, dists, sums);
         return;
     }
-    let mut sizes = lists::buffer::<usize, 256>(0);
-    let mut marks = lists::buffer::<usize, 256>(0);
-    refresh_rows(
-        area,
-        old,
-        labels,
-        k,
-        dists,
-        sums,
-        &mut sizes[..m],
-        &mut marks[..m],
-    );
+    refresh_on::<256>(area, old, labels, k, dists, sums);
 }
 
 // The nearest group of each item, and its distance, by the table.

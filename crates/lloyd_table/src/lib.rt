@@ -88,8 +88,7 @@ pub fn first_table(area: &mut [f64], m: usize, centres: &[usize])
     ensures by_index { (l : ℕ) → l < length centres.now → table_row area.new m l ≡ distances (points_at area.old m) m (points_at area.old m (numbers centres.now l)) }
     ensures area_unchanged { take (4 * (m * m)) area.new ≡ take (4 * (m * m)) area.old }
 {
-    let k = centres.len();
-    for l in 0..k {
-        copy_row(area, m, centres[l], l);
+    for (l, centre) in centres.iter().enumerate() {
+        copy_row(area, m, *centre, l);
     }
 }

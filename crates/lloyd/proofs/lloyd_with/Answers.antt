@@ -9,16 +9,16 @@ run-requires c =
     let p = c.requires in
     let a = c.first_table.new.area in
     let b = c.args.area.now in
-    let e = c.fill_numbers.auto.xs ∙ p.centres.1 in
+    let e = c.fill.auto.self ∙ p.centres.1 in
     record {
       held = rw e (held_kept m a b c.first_table.auto.area c.first_table.ensures.area_unchanged p.held, p.centres.0);
       fresh_len = rw e p.fresh_len;
-      after = rw e (after_now m b a c.first_table.ensures.area_unchanged c.args.centres.now c.fill_numbers.new.xs (after_none _ m _ (rw p.centres.1 at c.fill_numbers.ensures) c.first_table.ensures.by_index));
+      after = rw e (after_now m b a c.first_table.ensures.area_unchanged c.args.centres.now c.fill.new.self (after_none _ m _ (rw p.centres.1 at (c.fill.ensures.after (λ y e. e))) c.first_table.ensures.by_index));
     }
 
 pub returns : goal.returns
 returns c =
-    let e = c.fill_numbers.auto.xs ∙ c.requires.centres.1 in
+    let e = c.fill.auto.self ∙ c.requires.centres.1 in
     record {
       lloyd_result = clustered_now c.args.m c.args.area.now c.first_table.new.area c.first_table.ensures.area_unchanged (rw e at c.run.ensures.lloyd_result);
       area_unchanged = (rw e at c.run.ensures.area_unchanged) ∙ c.first_table.ensures.area_unchanged;

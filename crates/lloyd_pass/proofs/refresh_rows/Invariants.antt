@@ -1,10 +1,6 @@
-use Prim.Native.Nat.{◌*◌, ◌≤◌}
-use mathlib.Core.Path.{◌≡◌}
 use lib.ListN.{length}
 use Rattle.lloyd_pass.proofs.Turn.{Midway}
 use Rattle.lloyd_pass.proofs.refresh_rows.Given as goal
 
 abbrev pub invariant-loop-l : goal.invariant-loop-l
-invariant-loop-l l =
-    (l.l ≤ l.k) × (length l.dists ≡ length l.labels) × (length l.sums ≡ length l.labels) × (length l.area ≡ 5 * (length l.labels * length l.labels))
-    × Midway l.labels l.initial.dists l.initial.area (length l.labels) l.l l.dists l.area
+invariant-loop-l l = Midway l.labels l.initial.dists l.initial.area (length l.labels) l.l l.dists l.area
