@@ -15,11 +15,15 @@ use Rattle.base.specs.declared.Based.{Based}
 abbrev pub base_of : ℕ → Candidate → State
 base_of m c = record { groups = groups_of (numbers c.labels) m m; scores = c.scores }
 
+-- the answer of a call that nothing stopped
+abbrev pub based : ℕ → Source → Result Based Stop
+based groups source = Ok (record { groups = groups; source = source })
+
 -- the answer: how many groups, and the source behind the draws, which is `next`; or what ends the run. A round without a candidate
 -- would end it, but no call has one (certain_runs/specs/Certain.antt)
 abbrev pub based_of : ℕ → Source → Drawn Best → Result Based Stop
 based_of m next (drawn nothing rest) = Err ClusteringFailed
-based_of m next (drawn (found c) rest) = Ok (record { groups = length (base_of m c).groups; source = next })
+based_of m next (drawn (found c) rest) = based (length (base_of m c).groups) next
 based_of m next (refused p) = Err (DrawOutOfRange p)
 
 -- a partition of m items stands in the lists

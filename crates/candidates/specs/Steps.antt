@@ -12,10 +12,21 @@ use Rattle.candidates.specs.declared.Tried.{Tried}
 use Rattle.candidates.specs.Candidates.{Best, nothing, found}
 use Rattle.candidates.specs.Candidates as candidates
 
+-- a candidate that is kept
+abbrev pub kept_by : Float → Float → Option Kept
+kept_by stat mean = Some (record { stat = stat; mean = mean })
+
+-- the answers of calls that no draw stopped
+abbrev pub made : Source → Float → Float → Result Tried Stop
+made source stat mean = Ok (record { source = source; stat = stat; mean = mean })
+
+abbrev pub searched : Source → Option Kept → Result Searched Stop
+searched source kept = Ok (record { source = source; kept = kept })
+
 -- the t-stat and the mean of the best
 abbrev pub kept_of : Best → Option Kept
 kept_of nothing = None
-kept_of (found c) = Some (record { stat = c.stat; mean = c.mean })
+kept_of (found c) = kept_by c.stat c.mean
 
 -- the best, by what is kept and by the lists
 abbrev pub best_from : Option Kept → List ℕ → List Float → Best
@@ -29,7 +40,7 @@ Holds (found c) labels scores = (labels ≡ c.labels) × (scores ≡ c.scores)
 
 -- the answer on one candidate: the source behind its draws, which is `next`, its t-stat and its mean; or the place of a draw out of range
 abbrev pub tried_of : Source → Drawn candidates.Candidate → Result Tried Stop
-tried_of next (drawn c rest) = Ok (record { source = next; stat = c.stat; mean = c.mean })
+tried_of next (drawn c rest) = made next c.stat c.mean
 tried_of next (refused p) = Err (DrawOutOfRange p)
 
 -- the lists have its labels and its scores
@@ -43,7 +54,7 @@ pub record TriedBy (D : Drawn candidates.Candidate) (next : Source) (r : Result 
 
 -- the answer: the source behind the draws, which is `next`, and what is kept; or the place of a draw out of range
 abbrev pub searched_of : Source → Drawn Best → Result Searched Stop
-searched_of next (drawn b rest) = Ok (record { source = next; kept = kept_of b })
+searched_of next (drawn b rest) = searched next (kept_of b)
 searched_of next (refused p) = Err (DrawOutOfRange p)
 
 abbrev pub Leaves : Drawn Best → List ℕ → List Float → Type 0

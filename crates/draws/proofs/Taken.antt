@@ -4,7 +4,7 @@ use Rattle.draws.specs.Draws.{Drawn, drawn, refused, takes, one_draw, and_then}
 use Rattle.draws.specs.Stops.{draw_of}
 use Rattle.draws.specs.declared.Stop.{Stop}
 use Rattle.draws.specs.declared.Stop.TheVariants.{DrawOutOfRange}
-use Rattle.draws.specs.declared.Draw.TheVariants.{Value, Stopped}
+use Rattle.std.specs.Prelude.{Ok, Err}
 
 -- what holds of what was made and of the draws that remain, and of the place of a draw out of range
 abbrev pub Ends : {S : Type 0} → (S → List ℕ → Type 0) → (ℕ → Type 0) → Drawn S → Type 0
@@ -111,45 +111,45 @@ either {R} a b f g = by_test (ltb a b) refl
     by_test false e = g (ltb-false a b e)
 
 -- what the answer of one draw says of it
-value_at : (limit : ℕ) (draws : List ℕ) (i : ℕ) {d : ℕ} → i < length draws → draw_of (one_draw limit i (drop i draws)) ≡ Value d → (d ≡ get_or draws i 0) × (d < limit)
+value_at : (limit : ℕ) (draws : List ℕ) (i : ℕ) {d : ℕ} → i < length draws → draw_of (one_draw limit i (drop i draws)) ≡ Ok d → (d ≡ get_or draws i 0) × (d < limit)
 value_at limit draws i {d} l e = either (get_or draws i 0) limit good bad
   where
     good : get_or draws i 0 < limit → (d ≡ get_or draws i 0) × (d < limit)
-    good g = let q : Value (get_or draws i 0) ≡ Value d = ap draw_of (sym (one_good limit draws i l g)) ∙ e in let r : d ≡ get_or draws i 0 = cc in (r, rw r g)
+    good g = let q : Ok (get_or draws i 0) ≡ Ok d = ap draw_of (sym (one_good limit draws i l g)) ∙ e in let r : d ≡ get_or draws i 0 = cc in (r, rw r g)
 
     bad : limit ≤ get_or draws i 0 → (d ≡ get_or draws i 0) × (d < limit)
-    bad g = let q : Stopped (DrawOutOfRange i) ≡ Value d = ap draw_of (sym (one_bad limit draws i l g)) ∙ e in let z : ◌≡◌ {A = ℕ} 0 1 = cc in absurd (omega arith)
+    bad g = let q : Err (DrawOutOfRange i) ≡ Ok d = ap draw_of (sym (one_bad limit draws i l g)) ∙ e in let z : ◌≡◌ {A = ℕ} 0 1 = cc in absurd (omega arith)
 
-stopped_at : (limit : ℕ) (draws : List ℕ) (i : ℕ) {s : Stop} → i < length draws → draw_of (one_draw limit i (drop i draws)) ≡ Stopped s → (s ≡ DrawOutOfRange i) × (limit ≤ get_or draws i 0)
+stopped_at : (limit : ℕ) (draws : List ℕ) (i : ℕ) {s : Stop} → i < length draws → draw_of (one_draw limit i (drop i draws)) ≡ Err s → (s ≡ DrawOutOfRange i) × (limit ≤ get_or draws i 0)
 stopped_at limit draws i {s} l e = either (get_or draws i 0) limit good bad
   where
     good : get_or draws i 0 < limit → (s ≡ DrawOutOfRange i) × (limit ≤ get_or draws i 0)
-    good g = let q : Value (get_or draws i 0) ≡ Stopped s = ap draw_of (sym (one_good limit draws i l g)) ∙ e in let z : ◌≡◌ {A = ℕ} 0 1 = cc in absurd (omega arith)
+    good g = let q : Ok (get_or draws i 0) ≡ Err s = ap draw_of (sym (one_good limit draws i l g)) ∙ e in let z : ◌≡◌ {A = ℕ} 0 1 = cc in absurd (omega arith)
 
     bad : limit ≤ get_or draws i 0 → (s ≡ DrawOutOfRange i) × (limit ≤ get_or draws i 0)
-    bad g = let q : Stopped (DrawOutOfRange i) ≡ Stopped s = ap draw_of (sym (one_bad limit draws i l g)) ∙ e in let r : s ≡ DrawOutOfRange i = cc in (r, g)
+    bad g = let q : Err (DrawOutOfRange i) ≡ Err s = ap draw_of (sym (one_bad limit draws i l g)) ∙ e in let r : s ≡ DrawOutOfRange i = cc in (r, g)
 
-pub draw_value : (limit : ℕ) (draws : List ℕ) (i : ℕ) {d : ℕ} → i < length draws → draw_of (one_draw limit i (drop i draws)) ≡ Value d
+pub draw_value : (limit : ℕ) (draws : List ℕ) (i : ℕ) {d : ℕ} → i < length draws → draw_of (one_draw limit i (drop i draws)) ≡ Ok d
     → (d < limit) × (one_draw limit i (drop i draws) ≡ drawn d (drop (i + 1) draws))
 draw_value limit draws i l e =
     let v = value_at limit draws i l e in
     let g : get_or draws i 0 < limit = subst (λ (x : ℕ). x < limit) v.0 v.1 in
     (v.1, one_good limit draws i l g ∙ ap (λ (x : ℕ). drawn x (drop (i + 1) draws)) (sym v.0))
 
-pub draw_stopped : (limit : ℕ) (draws : List ℕ) (i : ℕ) {s : Stop} → i < length draws → draw_of (one_draw limit i (drop i draws)) ≡ Stopped s
+pub draw_stopped : (limit : ℕ) (draws : List ℕ) (i : ℕ) {s : Stop} → i < length draws → draw_of (one_draw limit i (drop i draws)) ≡ Err s
     → (s ≡ DrawOutOfRange i) × (one_draw limit i (drop i draws) ≡ refused i)
 draw_stopped limit draws i l e = let v = stopped_at limit draws i l e in (v.0, one_bad limit draws i l v.1)
 
 -- the steps of a loop over draws, by the answer of each
 module _ {S : Type 0} (limit : ℕ) (step : S → ℕ → S) (draws : List ℕ) (end i : ℕ) (s : S) (h : i < end) (l : i < length draws) where
-  pub take_value : {d : ℕ} → draw_of (one_draw limit i (drop i draws)) ≡ Value d
+  pub take_value : {d : ℕ} → draw_of (one_draw limit i (drop i draws)) ≡ Ok d
       → takes limit step (end - i) s i (drop i draws) ≡ takes limit step (end - (i + 1)) (step s d) (i + 1) (drop (i + 1) draws)
   take_value {d} e =
       let v = value_at limit draws i l e in
       let g : get_or draws i 0 < limit = subst (λ (x : ℕ). x < limit) v.0 v.1 in
       take_good limit step draws end i s h l g ∙ ap (λ (x : ℕ). takes limit step (end - (i + 1)) (step s x) (i + 1) (drop (i + 1) draws)) (sym v.0)
 
-  pub take_stopped : {q : Stop} → draw_of (one_draw limit i (drop i draws)) ≡ Stopped q → (takes limit step (end - i) s i (drop i draws) ≡ refused i) × (q ≡ DrawOutOfRange i)
+  pub take_stopped : {q : Stop} → draw_of (one_draw limit i (drop i draws)) ≡ Err q → (takes limit step (end - i) s i (drop i draws) ≡ refused i) × (q ≡ DrawOutOfRange i)
   take_stopped e = let v = stopped_at limit draws i l e in (take_bad limit step draws end i s h l v.1, v.0)
 
 -- steps that agree on draws below the limit

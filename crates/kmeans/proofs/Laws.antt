@@ -1,5 +1,6 @@
 -- Laws of k-means: what its answer says of the definition, that it takes exactly its count of draws, that draws behind them change nothing,
 -- and that the areas of a round are what it reads.
+use Rattle.std.specs.Prelude.{Ok, Err}
 use Prim.Native.Nat.{ℕ, ◌+◌, ◌*◌, ◌<◌, ◌≤◌}
 use mathlib.Core.Path.{◌≡◌, refl, sym, ◌∙◌, ap, subst}
 use mathlib.Core.List.{List, ◌++◌, append_assoc}
@@ -20,7 +21,6 @@ use Rattle.draws.specs.declared.Stop.{Stop}
 use Rattle.draws.specs.declared.Stop.TheVariants.{DrawOutOfRange}
 use Rattle.draws.proofs.Taken.{Ends, Among, behind, then_ends, then_behind, then_same}
 use Rattle.plusplus.specs.Seeding.{seeding, SeededBy, EachBelow}
-use Rattle.plusplus.specs.declared.Seeded as seeded
 use Rattle.plusplus.proofs.Seeds.{seeding_took, seeding_behind, seed_done, seed_stopped}
 use Rattle.plusplus.proofs.Same.{seeding_same}
 use Rattle.lloyd_pass.specs.declared.Ended.{Ended}
@@ -30,8 +30,8 @@ use Rattle.lloyd.specs.Result.{LloydResult}
 use Rattle.lloyd_pass.proofs.Same.{lloyd_same}
 use Rattle.lloyd_pass.proofs.Below.{labels_below, labels_length}
 use Rattle.kmeans.specs.Clustering.{Grouped, kmeans_of}
-use Rattle.kmeans.specs.Steps.{ClusteredBy}
-use Rattle.kmeans.specs.declared.Clustered.TheVariants.{Done, Stopped}
+use Rattle.kmeans.proofs.Parts.{clustered_parts}
+use Rattle.kmeans.specs.Steps.{clustered, ClusteredBy}
 
 -- the groups that the passes make from centres
 abbrev grouped : (ℕ → ℕ → Float) → ℕ → ℕ → List ℕ → Grouped
@@ -39,25 +39,25 @@ grouped x m k cs = record { labels = lloyd_labels x m k (numbers cs); ended = ll
 
 -- what `cluster` answers and leaves, by what the seeding answered
 module _ (x : ℕ → ℕ → Float) (m k : ℕ) (z : 0 < m) (one_of_lem : 0 < k) (at : ℕ) (ds : List ℕ) (next : ℕ) (cs : List ℕ) where
-  pub cluster_stopped : {w : Stop} (labels : List ℕ) → SeededBy (seeding (squared_at x m) m k at ds) next (seeded.TheVariants.Stopped w) cs → ClusteredBy (kmeans_of x m k at ds) next labels (Stopped w) labels
+  pub cluster_stopped : {w : Stop} (labels : List ℕ) → SeededBy (seeding (squared_at x m) m k at ds) next (Err w) cs → ClusteredBy (kmeans_of x m k at ds) next labels (Err w) labels
   unfolding kmeans_of
   cluster_stopped labels s =
       let v = seed_stopped (squared_at x m) m k z one_of_lem at ds next cs s in
       rw (v.1, v.2) (record { answer_is = refl; labels_are = refl })
 
-  module _ {n : ℕ} (s : SeededBy (seeding (squared_at x m) m k at ds) next (seeded.TheVariants.Done n) cs) where
+  module _ {n : ℕ} (s : SeededBy (seeding (squared_at x m) m k at ds) next (Ok n) cs) where
     pub centres_made : k ≤ m → Centres cs m
     centres_made h =
         let v = seed_done (squared_at x m) m k z one_of_lem at ds next cs s in
         record { groups = rw v.1 h; items = v.2 }
 
-    pub cluster_done : (labels : List ℕ) {r : Ended} {labels' : List ℕ} → LloydResult x m cs r labels' → ClusteredBy (kmeans_of x m k at ds) next labels (Done n r) labels'
+    pub cluster_done : (labels : List ℕ) {r : Ended} {labels' : List ℕ} → LloydResult x m cs r labels' → ClusteredBy (kmeans_of x m k at ds) next labels (clustered n r) labels'
     unfolding kmeans_of
     cluster_done labels {r} {labels'} c =
         let v = seed_done (squared_at x m) m k z one_of_lem at ds next cs s in
         let a : r ≡ lloyd_ended x m k (numbers cs) = c.answer ∙ ap (λ (j : ℕ). lloyd_ended x m j (numbers cs)) v.1 in
         let b : labels' ≡ lloyd_labels x m k (numbers cs) = c.labelled ∙ ap (λ (j : ℕ). lloyd_labels x m j (numbers cs)) v.1 in
-        rw (v.3, v.0) (record { answer_is = ap (Done next) a; labels_are = b })
+        rw (v.3, v.0) (record { answer_is = ap (clustered next) a; labels_are = b })
 
 -- what holds of the groups and of the draws that remain
 abbrev pub Took : ℕ → ℕ → List ℕ → Grouped → List ℕ → Type 0
@@ -85,31 +85,29 @@ module _ (x : ℕ → ℕ → Float) (m k : ℕ) (z : 0 < m) (one_of_lem : 0 < k
       (seeding_took (squared_at x m) m k z one_of_lem at p) (λ cs rest h. refl))
 
 -- what the answer of a call says of k-means, for callers
-done_is : (D : Drawn Grouped) {next n : ℕ} {old new : List ℕ} {e : Ended} → ClusteredBy D next old (Done n e) new
+done_is : (D : Drawn Grouped) {next n : ℕ} {old new : List ℕ} {e : Ended} → ClusteredBy D next old (clustered n e) new
     → (rest : List ℕ) × (n ≡ next) × (D ≡ drawn (record { labels = new; ended = e }) rest)
 done_is (drawn g rest) {next} {n} {old} {new} {e} s =
-    let a : Done n e ≡ Done next g.ended = s.answer_is in
-    let u : n ≡ next = cc in
-    let v : e ≡ g.ended = cc in
-    (rest, u, rw (v, s.labels_are))
+    let p = clustered_parts n next e g.ended s.answer_is in
+    (rest, p.0, rw (p.1, s.labels_are))
 done_is (refused p) {next} {n} {old} {new} {e} s =
-    let a : Done n e ≡ Stopped (DrawOutOfRange p) = s.answer_is in
+    let a : clustered n e ≡ Err (DrawOutOfRange p) = s.answer_is in
     let z : ◌≡◌ {A = ℕ} 0 1 = cc in
     absurd (omega arith)
 
-stopped_is : (D : Drawn Grouped) {next : ℕ} {old new : List ℕ} {w : Stop} → ClusteredBy D next old (Stopped w) new
+stopped_is : (D : Drawn Grouped) {next : ℕ} {old new : List ℕ} {w : Stop} → ClusteredBy D next old (Err w) new
     → (p : ℕ) × (D ≡ refused p) × (w ≡ DrawOutOfRange p) × (new ≡ old)
 stopped_is (drawn g rest) {next} {old} {new} {w} s =
-    let a : Stopped w ≡ Done next g.ended = s.answer_is in
+    let a : Err w ≡ clustered next g.ended = s.answer_is in
     let z : ◌≡◌ {A = ℕ} 0 1 = cc in
     absurd (omega arith)
 stopped_is (refused p) {next} {old} {new} {w} s =
-    let a : Stopped w ≡ Stopped (DrawOutOfRange p) = s.answer_is in
+    let a : Err w ≡ Err (DrawOutOfRange p) = s.answer_is in
     let e : w ≡ DrawOutOfRange p = cc in
     (p, refl, e, s.labels_are)
 
 module _ (x : ℕ → ℕ → Float) (m k : ℕ) (z : 0 < m) (one_of_lem : 0 < k) (at : ℕ) (ds : List ℕ) (next : ℕ) (old new : List ℕ) where
-  pub kmeans_done : {n : ℕ} {e : Ended} → ClusteredBy (kmeans_of x m k at ds) next old (Done n e) new
+  pub kmeans_done : {n : ℕ} {e : Ended} → ClusteredBy (kmeans_of x m k at ds) next old (clustered n e) new
       → (n ≡ next) × (length new ≡ m) × ((i : ℕ) → i < m → numbers new i < k)
       × (kmeans_of x m k at ds ≡ drawn (record { labels = new; ended = e }) (drop (seeding_of k) ds)) × (seeding_of k ≤ length ds)
   kmeans_done {n} {e} s =
@@ -117,7 +115,7 @@ module _ (x : ℕ → ℕ → Float) (m k : ℕ) (z : 0 < m) (one_of_lem : 0 < k
       let t = subst (Ends (Took m k ds) (Among at (seeding_of k))) v.2 (kmeans_took x m k z one_of_lem at ds) in
       (v.1, t.0, t.1, v.2 ∙ ap (drawn (record { labels = new; ended = e })) t.2, t.3)
 
-  pub kmeans_stopped : {w : Stop} → ClusteredBy (kmeans_of x m k at ds) next old (Stopped w) new
+  pub kmeans_stopped : {w : Stop} → ClusteredBy (kmeans_of x m k at ds) next old (Err w) new
       → (p : ℕ) × (w ≡ DrawOutOfRange p) × (kmeans_of x m k at ds ≡ refused p) × (at ≤ p) × (p < at + seeding_of k) × (new ≡ old)
   kmeans_stopped s =
       let v = stopped_is (kmeans_of x m k at ds) s in

@@ -1,4 +1,5 @@
 -- k-means by the draws of a source: what the answers of the calls say of the definition.
+use Rattle.std.specs.Prelude.{Ok, Err, Result}
 use Prim.Native.Nat.{ℕ, ◌+◌, ◌^◌, ◌<◌, ◌≤◌}
 use mathlib.Core.Path.{◌≡◌, refl, sym, ◌∙◌, ap, subst}
 use mathlib.Core.Bool.{true, false, cond, true≢false}
@@ -17,25 +18,21 @@ use Rattle.rng_std.specs.Seeds.{key_of}
 use Rattle.rng_std.proofs.Ranges.{word_below}
 use Rattle.plusplus.specs.Seeding.{seeding, SeededBy, MaySeed}
 use Rattle.draws.proofs.Counting.{turns_few}
-use Rattle.plusplus.specs.declared.Seeded.TheVariants as seeding
 use Rattle.plusplus.proofs.Same.{seeding_matrix}
 use Rattle.plusplus_seeded.specs.Seeded.{Made}
 use Rattle.plusplus_seeded.specs.declared.Source.{Source}
-use Rattle.plusplus_seeded.specs.declared.Supplied.{Supplied}
-use Rattle.plusplus_seeded.specs.declared.Supplied.TheVariants as supplied
 use Rattle.plusplus_seeded.specs.Sources.{words_by, given, moved_on, RngOf, seed_draws, seed_next, SuppliedBy}
 use Rattle.plusplus_seeded.proofs.Same.{seed_matrix}
 use Rattle.lloyd_pass.specs.declared.Ended.{Ended}
 use Rattle.kmeans.specs.Clustering.{Grouped}
-use Rattle.kmeans.specs.Steps.{ClusteredBy, LabelledBy, MayCluster, seed_given, seed_moved}
-use Rattle.kmeans.specs.declared.Clustered.TheVariants as clustered
-use Rattle.kmeans.specs.declared.Labelled.TheVariants as labelled
+use Rattle.kmeans.proofs.Parts.{clustered_parts, labelled_parts}
+use Rattle.kmeans.specs.Steps.{clustered, labelled, ClusteredBy, LabelledBy, MayCluster, seed_given, seed_moved}
 
-supplied_same : (R R' : Drawn (List ℕ)) (n n' : Source) (r : Supplied) (l : List ℕ) → R ≡ R' → n ≡ n' → SuppliedBy R n r l → SuppliedBy R' n' r l
+supplied_same : (R R' : Drawn (List ℕ)) (n n' : Source) (r : Result Source Stop) (l : List ℕ) → R ≡ R' → n ≡ n' → SuppliedBy R n r l → SuppliedBy R' n' r l
 supplied_same R R' n n' r l e h s = subst (λ (x : Source). SuppliedBy R' x r l) h (subst (λ (D : Drawn (List ℕ)). SuppliedBy D n r l) e s)
 
 -- the draws of a seeding on a table, for the matrix that it is
-pub supplied_matrix : (x : ℕ → ℕ → Float) (m k : ℕ) (src : Source) (draws : List ℕ) (r : Supplied) (l : List ℕ) {squares : List Float} → 0 < m → squares ≡ matrix_of (squared_at x m) m
+pub supplied_matrix : (x : ℕ → ℕ → Float) (m k : ℕ) (src : Source) (draws : List ℕ) (r : Result Source Stop) (l : List ℕ) {squares : List Float} → 0 < m → squares ≡ matrix_of (squared_at x m) m
     → SuppliedBy (seeding (table squares m) m k src.at (given src draws (seed_draws src (table squares m) m k))) (moved_on src (seeding_of k) (seed_next src (table squares m) m k)) r l
     → SuppliedBy (seeding (squared_at x m) m k src.at (seed_given x m k src draws)) (seed_moved x m k src) r l
 supplied_matrix x m k src draws r l {squares} z e s =
@@ -57,77 +54,74 @@ pub no_rng : {A : Type 0} → false ≡ true → A
 no_rng a = absurd (true≢false (sym a))
 
 -- what the answer of a seeding says, by the laws of one that takes its draws from a list
-pub supply_done : (R : Drawn (List ℕ)) {next n : Source} {cs : List ℕ} → SuppliedBy R next (supplied.Done n) cs → (n ≡ next) × SeededBy R 0 (seeding.Done 0) cs
+pub supply_done : (R : Drawn (List ℕ)) {next n : Source} {cs : List ℕ} → SuppliedBy R next (Ok n) cs → (n ≡ next) × SeededBy R 0 (Ok 0) cs
 supply_done (drawn c rest) {next} {n} {cs} s =
-    let a : supplied.Done n ≡ supplied.Done next = s.answer_is in
+    let a : Ok n ≡ Ok next = s.answer_is in
     let e : n ≡ next = cc in
     (e, record { answer_is = refl; centres_are = s.centres_are })
 supply_done (refused p) {next} {n} {cs} s =
-    let a : supplied.Done n ≡ supplied.Stopped (DrawOutOfRange p) = s.answer_is in
+    let a : Ok n ≡ Err (DrawOutOfRange p) = s.answer_is in
     let z : ◌≡◌ {A = ℕ} 0 1 = cc in
     absurd (omega arith)
 
-pub seeded_done : (R : Drawn (List ℕ)) {next n : Source} {cs : List ℕ} → SuppliedBy R next (supplied.Done n) cs → SeededBy R next.at (seeding.Done n.at) cs
+pub seeded_done : (R : Drawn (List ℕ)) {next n : Source} {cs : List ℕ} → SuppliedBy R next (Ok n) cs → SeededBy R next.at (Ok n.at) cs
 seeded_done (drawn c rest) {next} {n} {cs} s =
-    let a : supplied.Done n ≡ supplied.Done next = s.answer_is in
+    let a : Ok n ≡ Ok next = s.answer_is in
     let e : n ≡ next = cc in
     record { answer_is = rw e refl; centres_are = s.centres_are }
 seeded_done (refused p) {next} {n} {cs} s =
-    let a : supplied.Done n ≡ supplied.Stopped (DrawOutOfRange p) = s.answer_is in
+    let a : Ok n ≡ Err (DrawOutOfRange p) = s.answer_is in
     let z : ◌≡◌ {A = ℕ} 0 1 = cc in
     absurd (omega arith)
 
-pub seeded_stopped : (R : Drawn (List ℕ)) {next : Source} {at : ℕ} {w : Stop} {cs : List ℕ} → SuppliedBy R next (supplied.Stopped w) cs → SeededBy R at (seeding.Stopped w) cs
+pub seeded_stopped : (R : Drawn (List ℕ)) {next : Source} {at : ℕ} {w : Stop} {cs : List ℕ} → SuppliedBy R next (Err w) cs → SeededBy R at (Err w) cs
 seeded_stopped (drawn c rest) {next} {at} {w} {cs} s =
-    let a : supplied.Stopped w ≡ supplied.Done next = s.answer_is in
+    let a : Err w ≡ Ok next = s.answer_is in
     let z : ◌≡◌ {A = ℕ} 0 1 = cc in
     absurd (omega arith)
 seeded_stopped (refused p) {next} {at} {w} {cs} s =
-    let a : supplied.Stopped w ≡ supplied.Stopped (DrawOutOfRange p) = s.answer_is in
+    let a : Err w ≡ Err (DrawOutOfRange p) = s.answer_is in
     let e : w ≡ DrawOutOfRange p = cc in
-    record { answer_is = ap seeding.Stopped e; centres_are = tt }
+    record { answer_is = ap Err e; centres_are = tt }
 
 -- what k-means answers, with a source and with a place
-pub labelled_done : (D : Drawn Grouped) {next n : Source} {old new : List ℕ} {e : Ended} → n ≡ next → ClusteredBy D 0 old (clustered.Done 0 e) new → LabelledBy D next old (labelled.Done n e) new
+pub labelled_done : (D : Drawn Grouped) {next n : Source} {old new : List ℕ} {e : Ended} → n ≡ next → ClusteredBy D 0 old (clustered 0 e) new → LabelledBy D next old (labelled n e) new
 labelled_done (drawn g rest) {next} {n} {old} {new} {e} h s =
-    let a : clustered.Done 0 e ≡ clustered.Done 0 g.ended = s.answer_is in
-    let v : e ≡ g.ended = cc in
+    let v = (clustered_parts 0 0 e g.ended s.answer_is).1 in
     record { answer_is = rw (h, v) refl; labels_are = s.labels_are }
 labelled_done (refused p) {next} {n} {old} {new} {e} h s =
-    let a : clustered.Done 0 e ≡ clustered.Stopped (DrawOutOfRange p) = s.answer_is in
+    let a : clustered 0 e ≡ Err (DrawOutOfRange p) = s.answer_is in
     let z : ◌≡◌ {A = ℕ} 0 1 = cc in
     absurd (omega arith)
 
-pub labelled_stopped : (D : Drawn Grouped) {next : Source} {w : Stop} {old new : List ℕ} → ClusteredBy D 0 old (clustered.Stopped w) new → LabelledBy D next old (labelled.Stopped w) new
+pub labelled_stopped : (D : Drawn Grouped) {next : Source} {w : Stop} {old new : List ℕ} → ClusteredBy D 0 old (Err w) new → LabelledBy D next old (Err w) new
 labelled_stopped (drawn g rest) {next} {w} {old} {new} s =
-    let a : clustered.Stopped w ≡ clustered.Done 0 g.ended = s.answer_is in
+    let a : Err w ≡ clustered 0 g.ended = s.answer_is in
     let z : ◌≡◌ {A = ℕ} 0 1 = cc in
     absurd (omega arith)
 labelled_stopped (refused p) {next} {w} {old} {new} s =
-    let a : clustered.Stopped w ≡ clustered.Stopped (DrawOutOfRange p) = s.answer_is in
+    let a : Err w ≡ Err (DrawOutOfRange p) = s.answer_is in
     let e : w ≡ DrawOutOfRange p = cc in
-    record { answer_is = ap labelled.Stopped e; labels_are = s.labels_are }
+    record { answer_is = ap Err e; labels_are = s.labels_are }
 
-pub clustered_done : (D : Drawn Grouped) {next n : Source} {old new : List ℕ} {e : Ended} → LabelledBy D next old (labelled.Done n e) new → ClusteredBy D next.at old (clustered.Done n.at e) new
+pub clustered_done : (D : Drawn Grouped) {next n : Source} {old new : List ℕ} {e : Ended} → LabelledBy D next old (labelled n e) new → ClusteredBy D next.at old (clustered n.at e) new
 clustered_done (drawn g rest) {next} {n} {old} {new} {e} s =
-    let a : labelled.Done n e ≡ labelled.Done next g.ended = s.answer_is in
-    let u : n ≡ next = cc in
-    let v : e ≡ g.ended = cc in
-    record { answer_is = rw (u, v) refl; labels_are = s.labels_are }
+    let p = labelled_parts n next e g.ended s.answer_is in
+    record { answer_is = rw (p.0, p.1) refl; labels_are = s.labels_are }
 clustered_done (refused p) {next} {n} {old} {new} {e} s =
-    let a : labelled.Done n e ≡ labelled.Stopped (DrawOutOfRange p) = s.answer_is in
+    let a : labelled n e ≡ Err (DrawOutOfRange p) = s.answer_is in
     let z : ◌≡◌ {A = ℕ} 0 1 = cc in
     absurd (omega arith)
 
-pub clustered_stopped : (D : Drawn Grouped) {next : Source} {at : ℕ} {w : Stop} {old new : List ℕ} → LabelledBy D next old (labelled.Stopped w) new → ClusteredBy D at old (clustered.Stopped w) new
+pub clustered_stopped : (D : Drawn Grouped) {next : Source} {at : ℕ} {w : Stop} {old new : List ℕ} → LabelledBy D next old (Err w) new → ClusteredBy D at old (Err w) new
 clustered_stopped (drawn g rest) {next} {at} {w} {old} {new} s =
-    let a : labelled.Stopped w ≡ labelled.Done next g.ended = s.answer_is in
+    let a : Err w ≡ labelled next g.ended = s.answer_is in
     let z : ◌≡◌ {A = ℕ} 0 1 = cc in
     absurd (omega arith)
 clustered_stopped (refused p) {next} {at} {w} {old} {new} s =
-    let a : labelled.Stopped w ≡ labelled.Stopped (DrawOutOfRange p) = s.answer_is in
+    let a : Err w ≡ Err (DrawOutOfRange p) = s.answer_is in
     let e : w ≡ DrawOutOfRange p = cc in
-    record { answer_is = ap clustered.Stopped e; labels_are = s.labels_are }
+    record { answer_is = ap Err e; labels_are = s.labels_are }
 
 -- a list has the draws of one seeding
 pub list_supplies : (m k : ℕ) (draws : List ℕ) (at : ℕ) → m ≤ 256 → length draws < 2 ^ 64 → MaySeed m k draws at → MayCluster m k draws (record { at = at; seeded = false; seed = 0; taken = 0 })

@@ -9,11 +9,19 @@ use Rattle.draws.specs.declared.Stop.{Stop}
 use Rattle.draws.specs.declared.Stop.TheVariants.{DrawOutOfRange}
 use Rattle.kmeans.specs.declared.Clustered.{Clustered}
 use Rattle.kmeans.specs.declared.Labelled.{Labelled}
+use Rattle.lloyd_pass.specs.declared.Ended.{Ended}
 use Rattle.kmeans.specs.Clustering.{Grouped}
+
+-- the answers of calls that no draw stopped
+abbrev pub clustered : ℕ → Ended → Result Clustered Stop
+clustered at ended = Ok (record { at = at; ended = ended })
+
+abbrev pub labelled : Source → Ended → Result Labelled Stop
+labelled source ended = Ok (record { source = source; ended = ended })
 
 -- the answer: the place of the next draw, which is `next`, and how the passes ended; or the place of a draw out of range
 abbrev pub clustered_of : ℕ → Drawn Grouped → Result Clustered Stop
-clustered_of next (drawn g rest) = Ok (record { at = next; ended = g.ended })
+clustered_of next (drawn g rest) = clustered next g.ended
 clustered_of next (refused p) = Err (DrawOutOfRange p)
 
 -- the labels after the call; a draw out of range leaves them as they were
@@ -40,7 +48,7 @@ seed_moved x m k src = moved_on src (seeding_of k) (seed_next src (squared_at x 
 
 -- the answer: the source behind the draws, which is `next`, and how the passes ended; or the place of a draw out of range
 abbrev pub labelled_of : Source → Drawn Grouped → Result Labelled Stop
-labelled_of next (drawn g rest) = Ok (record { source = next; ended = g.ended })
+labelled_of next (drawn g rest) = labelled next g.ended
 labelled_of next (refused p) = Err (DrawOutOfRange p)
 
 pub record LabelledBy (g : Drawn Grouped) (next : Source) (labels : List ℕ) (r : Result Labelled Stop) (labels' : List ℕ) : Type 0 where

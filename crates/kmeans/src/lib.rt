@@ -108,8 +108,37 @@ fn cluster(
     Ok(Labelled { source, ended })
 }
 
+// The same, with lists of N places for the centres and the weights.
+fn cluster_on<const N: usize>(
+    area: &mut [f64],
+    m: usize,
+    k: usize,
+    draws: &[u64],
+    src: Source,
+    labels: &mut [usize],
+    rng: &mut [u32],
+) -> Result<Labelled, Stop>
+    requires { Held area.old m × MayCluster m k draws.now src × (length labels.old ≡ m) × RngOf src rng.old × (m ≤ N) × (N ≤ 256) }
+    ensures labelled_by { LabelledBy (kmeans_of (points_at area.old m) m k src.at (seed_given (points_at area.old m) m k src draws.now)) (seed_moved (points_at area.old m) m k src) labels.old result labels.new }
+    ensures area_unchanged { take (4 * (m * m)) area.new ≡ take (4 * (m * m)) area.old }
+    ensures rng_of { RngOf (seed_moved (points_at area.old m) m k src) rng.new }
+{
+    let mut centres = lists::buffer::<usize, N>(0);
+    let mut weights = lists::buffer::<f64, N>(0.0);
+    cluster(
+        area,
+        m,
+        draws,
+        src,
+        labels,
+        &mut centres[..k],
+        &mut weights[..m],
+        rng,
+    )
+}
+
 // The labels of the m items in k groups, by the draws of the source. Inner form. The fifth area, the table, is left with
-// anything; a draw out of range leaves the labels as they were.
+// anything; a draw out of range leaves the labels as they were. Lists of 256 places take longer to make than a round of few items.
 pub fn labels_by(
     area: &mut [f64],
     m: usize,
@@ -125,31 +154,9 @@ pub fn labels_by(
     ensures rng_of { RngOf (seed_moved (points_at area.old m) m k src) rng.new }
 {
     if m <= 32 {
-        let mut centres = lists::buffer::<usize, 32>(0);
-        let mut weights = lists::buffer::<f64, 32>(0.0);
-        return cluster(
-            area,
-            m,
-            draws,
-            src,
-            labels,
-            &mut centres[..k],
-            &mut weights[..m],
-            rng,
-        );
+        return cluster_on::<32>(area, m, k, draws, src, labels, rng);
     }
-    let mut centres = lists::buffer::<usize, 256>(0);
-    let mut weights = lists::buffer::<f64, 256>(0.0);
-    cluster(
-        area,
-        m,
-        draws,
-        src,
-        labels,
-        &mut centres[..k],
-        &mut weights[..m],
-        rng,
-    )
+    cluster_on::<256>(area, m, k, draws, src, labels, rng)
 }
 
 // The same with the draws of the list from place `at` on.

@@ -1,24 +1,54 @@
 -- What a k-means leaf knows once nothing is refused, and what its lists are, refused or not.
 use Prim.Native.Nat.{ℕ, ◌≤◌, ◌*◌}
-use mathlib.Core.Path.{◌≡◌, refl, sym, ◌∙◌}
+use mathlib.Core.Path.{◌≡◌, refl, sym, ◌∙◌, ap}
 use mathlib.Core.Bool.{Bool, true, false, cond, ◌||◌}
 use mathlib.Core.List.{List}
-use borrow.Author.Tests.{ltb-false, eqb-true, leb-true, ne_eqb}
+use borrow.Author.Tests.{ltb-false, eqb-true, leb-true}
 use lib.Dec.{eqb, ltb, leb}
 use lib.Ieee.{Float}
 use Rattle.refusals.specs.Table as table
-use Rattle.refusals.specs.Table.{Refusal, none, or_else, refusal, work_doubles, wiped, work_numbers, wiped_numbers}
-use Rattle.refusals.specs.declared.Answer.{Answer}
+use Rattle.refusals.specs.Table.{Answer, Refusal, none, or_else, refusal, work_doubles, wiped, work_numbers, wiped_numbers}
+use Rattle.std.specs.Prelude.{Result, Err}
+use Rattle.refusals.specs.declared.Cause.{Cause}
+use Rattle.refusals.specs.declared.Cause.TheVariants as cause
 use Rattle.refusals.proofs.Laws.{when_none, accepted, fits_asked, passed}
-use Rattle.kmeans_answers.specs.declared.Kmeans.{Kmeans}
-use Rattle.kmeans_answers.specs.Answers.{number_of, refusal_of, read_of}
+use Rattle.kmeans_answers.specs.declared.KmeansError.{KmeansError}
+use Rattle.kmeans_answers.specs.declared.KmeansError.TheVariants.{InvalidCorrelationMatrix, TooLarge, CellCount, ListLength, GroupCount, CentreOutOfRange, Stopped}
+use Rattle.draws.specs.declared.Stop.TheVariants.{Rounds, Short, DrawOutOfRange, ClusteringFailed}
+use Rattle.kmeans_answers.specs.Answers.{error_of, error_number, error_place, refusal_of, read_of}
 use Rattle.kmeans_answers.specs.Leaf.{leaf_refusal, lists_fit, Ran, leaf_of}
 use Rattle.lists.proofs.Tests.{impossible, both, neither}
 
--- a refusal of the rows above stands
-pub above : (a : Answer) {q : Refusal} (below : Refusal) → table.refusal_of a ≡ q → (table.number_of a ≡ 0 → ⊥) → table.refusal_of a ≡ or_else q below
+-- each refusal has a number of the table
+never_zero : (e : KmeansError) → eqb (error_number e) 0 ≡ false
+never_zero InvalidCorrelationMatrix = refl
+never_zero TooLarge = refl
+never_zero CellCount = refl
+never_zero ListLength = refl
+never_zero GroupCount = refl
+never_zero (CentreOutOfRange p) = refl
+never_zero (Stopped Rounds) = refl
+never_zero (Stopped (Short read)) = refl
+never_zero (Stopped (DrawOutOfRange p)) = refl
+never_zero (Stopped ClusteringFailed) = refl
+
+-- a refusal of the common checks keeps its number and its place
+same_row : (c : Cause) → record { number = error_number (error_of c); place = error_place (error_of c) } ≡ table.refusal_of (Err c)
+same_row cause.InvalidCorrelationMatrix = refl
+same_row cause.TooLarge = refl
+same_row cause.CellCount = refl
+same_row cause.ListLength = refl
+same_row (cause.OutOfRange p) = refl
+
+-- so a refusal of the rows above stands
+or_above : (q below : Refusal) → eqb q.number 0 ≡ false → q ≡ or_else q below
 unfolding or_else
-above a below is h = rw (← is, ne_eqb (table.number_of a) 0 h)
+or_above q below h = rw h
+
+pub above : {T : Type 0} (a : Result T KmeansError) (c : Cause) {q : Refusal} (below : Refusal) → a ≡ Err (error_of c) → table.refusal_of (Err c) ≡ q → refusal_of a ≡ or_else q below
+above a c {q} below e is =
+    let r : refusal_of a ≡ q = ap refusal_of e ∙ (same_row c ∙ is) in
+    r ∙ or_above q below (ap (λ (x : Refusal). eqb x.number 0) (sym is ∙ sym (same_row c)) ∙ never_zero (error_of c))
 
 -- where none of them applies the rows below decide
 split : (t : Bool) (q below : Refusal) → eqb q.number 0 ≡ t → eqb (cond t below q).number 0 ≡ true → (t ≡ true) × (eqb below.number 0 ≡ true)
@@ -83,11 +113,11 @@ sized n out size floats numbers h =
     }
 
 -- the record of a leaf that is refused before it starts, and of one that ran
-module _ (a : Kmeans) (q : Refusal) (n : ℕ) (ran : Ran) (out : List ℕ) (floats : List Float) (numbers : List ℕ) where
-  pub not_started : refusal_of a ≡ q → read_of a ≡ 0 → (number_of a ≡ 0 → ⊥)
+module _ (a : Result ℕ KmeansError) (q : Refusal) (n : ℕ) (ran : Ran) (out : List ℕ) (floats : List Float) (numbers : List ℕ) where
+  pub not_started : (e : KmeansError) → a ≡ Err e → record { number = error_number e; place = error_place e } ≡ q
       → record { answer = refusal_of a; read = read_of a; out = out; floats = floats; numbers = numbers } ≡ leaf_of q n ran out floats numbers
   unfolding leaf_of
-  not_started is none_read h = rw (← is, none_read, ne_eqb (number_of a) 0 h)
+  not_started e w is = rw (w, ← is, never_zero e)
 
   pub was_run : eqb q.number 0 ≡ true → {out' : List ℕ} {floats' : List Float} {numbers' : List ℕ}
       → record { answer = refusal_of a; read = read_of a; out = out' } ≡ ran → floats' ≡ wiped n floats → numbers' ≡ wiped_numbers n numbers

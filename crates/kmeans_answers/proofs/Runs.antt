@@ -10,17 +10,18 @@ use lib.Seq.{drop_at}
 use lib.Ieee.{Float}
 use Rattle.lists.specs.Sums.{zero64}
 use Rattle.lists.proofs.Parts.{drop_behind}
-use Rattle.refusals.specs.Table.{Refusal, work_doubles, wiped}
+use Rattle.refusals.specs.Table.{Refusal, none, work_doubles, wiped}
 use Rattle.draws.specs.Draws.{Drawn}
 use Rattle.draws.specs.declared.Stop.TheVariants.{Short}
-use Rattle.kmeans_answers.specs.declared.Kmeans.{Kmeans}
-use Rattle.kmeans_answers.specs.declared.Kmeans.TheVariants.{Stopped}
-use Rattle.kmeans_answers.specs.Answers.{number_of, refusal_of, read_of}
+use Rattle.std.specs.Prelude.{Result, Err}
+use Rattle.kmeans_answers.specs.declared.KmeansError.{KmeansError}
+use Rattle.kmeans_answers.specs.declared.KmeansError.TheVariants.{Stopped}
+use Rattle.kmeans_answers.specs.Answers.{refusal_of, read_of}
 use Rattle.kmeans_answers.specs.Leaf.{Points, Ran, took_of, ran_of, leaf_refusal, lists_fit}
 use Rattle.kmeans_answers.proofs.Laws.{Started, started, Sized, sized, fits_in}
 
 -- what a leaf that has started answers
-abbrev pub ran : Kmeans → List ℕ → Ran
+abbrev pub ran : Result ℕ KmeansError → List ℕ → Ran
 ran a out = record { answer = refusal_of a; read = read_of a; out = out }
 
 -- draws taken from the front, as the definition counts them
@@ -29,7 +30,7 @@ counted_back n ds h = simp length-drop (omega arith)
 
 -- fewer draws than the leaf needs, or enough
 module _ (need : ℕ) (ds : List ℕ) (d : Drawn (List ℕ)) (old : List ℕ) where
-  pub too_few : ltb (length ds) need ≡ true → ran (Stopped (Short 0)) old ≡ ran_of need ds d old
+  pub too_few : ltb (length ds) need ≡ true → ran (Err (Stopped (Short 0))) old ≡ ran_of need ds d old
   unfolding ran_of
   too_few h = rw h
 
@@ -52,15 +53,14 @@ module _ (n : ℕ) (floats front : List Float) (l : length front ≡ 5 * (n * n)
 pub wiped_back : (n : ℕ) (a b : List Float) {c : List Float} → c ≡ wiped n b → drop (work_doubles n) b ≡ drop (work_doubles n) a → c ≡ wiped n a
 wiped_back n a b e f = e ∙ ap (λ (x : List Float). replicate (work_doubles n) zero64 ++ x) f
 
--- what a leaf knows when it is not refused, by its own test whether the lists fit
-module _ (asked : Kmeans) (cells n k out size floats numbers bad count : ℕ) {fits : Bool} (f : n ≤ 256 → fits ≡ lists_fit n out size floats numbers)
-    (is : refusal_of asked ≡ leaf_refusal cells n fits k bad count) where
-  pub asked_is : refusal_of asked ≡ leaf_refusal cells n (lists_fit n out size floats numbers) k bad count
-  asked_is = is ∙ fits_in cells n fits (lists_fit n out size floats numbers) k bad count f
+-- what a leaf knows of its refusal by its own test whether the lists fit, and when it is not refused
+module _ (cells n k out size floats numbers bad count : ℕ) {fits : Bool} (f : n ≤ 256 → fits ≡ lists_fit n out size floats numbers) where
+  pub asked_is : {q : Refusal} → q ≡ leaf_refusal cells n fits k bad count → q ≡ leaf_refusal cells n (lists_fit n out size floats numbers) k bad count
+  asked_is is = is ∙ fits_in cells n fits (lists_fit n out size floats numbers) k bad count f
 
-  module _ (zero : number_of asked ≡ 0) where
+  module _ (is : none ≡ leaf_refusal cells n fits k bad count) where
     pub none_refused : eqb (leaf_refusal cells n (lists_fit n out size floats numbers) k bad count).number 0 ≡ true
-    none_refused = ap (λ (x : Refusal). eqb x.number 0) (sym asked_is) ∙ ap (λ (x : ℕ). eqb x 0) zero
+    none_refused = ap (λ (x : Refusal). eqb x.number 0) (sym (asked_is is))
 
     pub starts : Started cells n (lists_fit n out size floats numbers) k bad count
     starts = started cells n (lists_fit n out size floats numbers) k bad count none_refused

@@ -2,19 +2,18 @@
 #![tactic(auto)]
 
 ghost use Rattle.std.specs.Prelude.{◌≡◌, ◌≤◌, ltb, length};
-ghost use Rattle.refusals.specs.Table as table;
 ghost use Rattle.refusals.specs.Table.{work_doubles, wiped, work_numbers, wiped_numbers};
 ghost use Rattle.draws.specs.Counts.{seeding_of};
-ghost use Rattle.kmeans_answers.specs.Answers.{number_of, place_of, refusal_of, read_of};
+ghost use Rattle.kmeans_answers.specs.declared.KmeansError.TheVariants.{Stopped};
+ghost use Rattle.kmeans_answers.specs.Answers.{error_of, number_of, place_of, refusal_of, read_of};
 ghost use Rattle.kmeans_answers.specs.Leaf.{leaf_refusal, lists_fit};
 
 use draws::Stop;
-use refusals::Answer;
+use refusals::Cause;
 
-// Done, with the draws read; or the first row of the table that applies.
+// The first row of the table that applies.
 #[derive(Clone, Copy)]
-pub enum Kmeans {
-    Done(usize),
+pub enum KmeansError {
     InvalidCorrelationMatrix,
     TooLarge,
     CellCount,
@@ -24,19 +23,45 @@ pub enum Kmeans {
     Stopped(Stop),
 }
 
+// What a leaf answers: the draws read, or why not.
+pub type Kmeans = Result<usize, KmeansError>;
+
+// The same row; a number out of range is a centre.
+impl From<Cause> for KmeansError {
+    ghost from_gives = { λ c e. e ≡ error_of c };
+
+    fn from(c: Cause) -> KmeansError {
+        match c {
+            Cause::InvalidCorrelationMatrix => KmeansError::InvalidCorrelationMatrix,
+            Cause::TooLarge => KmeansError::TooLarge,
+            Cause::CellCount => KmeansError::CellCount,
+            Cause::ListLength => KmeansError::ListLength,
+            Cause::OutOfRange(p) => KmeansError::CentreOutOfRange(p),
+        }
+    }
+}
+
+impl From<Stop> for KmeansError {
+    ghost from_gives = { λ s e. e ≡ Stopped s };
+
+    fn from(s: Stop) -> KmeansError {
+        KmeansError::Stopped(s)
+    }
+}
+
 // The table's number; 0 where nothing is refused.
 pub fn number_of(a: Kmeans) -> usize
     ensures { result ≡ number_of a }
 {
     match a {
-        Kmeans::Done(_read) => 0,
-        Kmeans::InvalidCorrelationMatrix => 2,
-        Kmeans::TooLarge => 4,
-        Kmeans::CellCount => 5,
-        Kmeans::ListLength => 6,
-        Kmeans::GroupCount => 29,
-        Kmeans::CentreOutOfRange(_p) => 10,
-        Kmeans::Stopped(s) => draws::stop_number(s),
+        Ok(_) => 0,
+        Err(KmeansError::InvalidCorrelationMatrix) => 2,
+        Err(KmeansError::TooLarge) => 4,
+        Err(KmeansError::CellCount) => 5,
+        Err(KmeansError::ListLength) => 6,
+        Err(KmeansError::GroupCount) => 29,
+        Err(KmeansError::CentreOutOfRange(_)) => 10,
+        Err(KmeansError::Stopped(s)) => draws::stop_number(s),
     }
 }
 
@@ -45,14 +70,9 @@ pub fn place_of(a: Kmeans) -> usize
     ensures { result ≡ place_of a }
 {
     match a {
-        Kmeans::Done(_read) => 0,
-        Kmeans::InvalidCorrelationMatrix => 0,
-        Kmeans::TooLarge => 0,
-        Kmeans::CellCount => 0,
-        Kmeans::ListLength => 0,
-        Kmeans::GroupCount => 0,
-        Kmeans::CentreOutOfRange(p) => p,
-        Kmeans::Stopped(s) => draws::stop_place(s),
+        Err(KmeansError::CentreOutOfRange(p)) => p,
+        Err(KmeansError::Stopped(s)) => draws::stop_place(s),
+        _ => 0,
     }
 }
 
@@ -61,63 +81,38 @@ pub fn read_of(a: Kmeans) -> usize
     ensures { result ≡ read_of a }
 {
     match a {
-        Kmeans::Done(read) => read,
-        Kmeans::InvalidCorrelationMatrix => 0,
-        Kmeans::TooLarge => 0,
-        Kmeans::CellCount => 0,
-        Kmeans::ListLength => 0,
-        Kmeans::GroupCount => 0,
-        Kmeans::CentreOutOfRange(_p) => 0,
-        Kmeans::Stopped(_s) => 0,
-    }
-}
-
-// The answer of the common checks, as the case of `Kmeans` with the same number and place.
-fn answered(a: Answer) -> Kmeans
-    ensures { (refusal_of result ≡ table.refusal_of a) × (read_of result ≡ 0) }
-{
-    match a {
-        Answer::Done => Kmeans::Done(0),
-        Answer::InvalidCorrelationMatrix => Kmeans::InvalidCorrelationMatrix,
-        Answer::TooLarge => Kmeans::TooLarge,
-        Answer::CellCount => Kmeans::CellCount,
-        Answer::ListLength => Kmeans::ListLength,
-        Answer::OutOfRange(p) => Kmeans::CentreOutOfRange(p),
+        Ok(read) => read,
+        Err(_) => 0,
     }
 }
 
 // The first row that keeps every list, of `cells` cells of n items, lists that fit or not, k groups, and the place of
 // the first bad centre among `count`.
-pub fn check(cells: usize, n: usize, fits: bool, k: usize, bad: usize, count: usize) -> Kmeans
-    ensures { (refusal_of result ≡ leaf_refusal cells n fits k bad count) × (read_of result ≡ 0) }
+pub fn check(
+    cells: usize,
+    n: usize,
+    fits: bool,
+    k: usize,
+    bad: usize,
+    count: usize,
+) -> Result<(), KmeansError>
+    ensures { refusal_of result ≡ leaf_refusal cells n fits k bad count }
 {
-    let shape = refusals::check(cells, n, n, fits, 0, 0);
-    if refusals::number_of(shape) != 0 {
-        return answered(shape);
-    }
-    if k < 2 {
-        return Kmeans::GroupCount;
-    }
-    if n < k {
-        return Kmeans::GroupCount;
+    refusals::check(cells, n, n, fits, 0, 0)?;
+    if k < 2 || n < k {
+        return Err(KmeansError::GroupCount);
     }
     if bad < count {
-        return Kmeans::CentreOutOfRange(bad);
+        return Err(KmeansError::CentreOutOfRange(bad));
     }
-    Kmeans::Done(0)
+    Ok(())
 }
 
 // Whether the output list has its size and the working lists have room; asked of at most 256 items.
 pub fn lists_fit(n: usize, out: usize, size: usize, floats: usize, numbers: usize) -> bool
     ensures { n ≤ 256 → result ≡ lists_fit n out size floats numbers }
 {
-    if out != size {
-        return false;
-    }
-    if !refusals::has_room(floats, n) {
-        return false;
-    }
-    refusals::has_numbers(numbers, n)
+    out == size && refusals::has_room(floats, n) && refusals::has_numbers(numbers, n)
 }
 
 // Whether there are fewer draws than k centres take. Inner form: k from 1 to 256.

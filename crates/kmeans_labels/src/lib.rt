@@ -13,8 +13,7 @@ ghost use Rattle.kmeans_answers.specs.Leaf.{Points, took_of, ran_of};
 ghost use Rattle.kmeans_labels.specs.Leaves.{labels_of, labels_leaf};
 
 use draws::Stop;
-use kmeans::Clustered;
-use kmeans_answers::Kmeans;
+use kmeans_answers::{Kmeans, KmeansError};
 
 // The labels of the items in k groups, with the areas in a lent list.
 fn labels_alone(
@@ -30,10 +29,8 @@ fn labels_alone(
         ≡ took_of draws.now (labels_of (kmeans_of (cell_at points.now n) n k 0 draws.now)) labels.old }
 {
     kmeans::prepare(points, n, area);
-    match kmeans::labels_in(area, n, k, draws, 0, labels) {
-        Clustered::Stopped(s) => Kmeans::Stopped(s),
-        Clustered::Done(next, _ended) => Kmeans::Done(next),
-    }
+    let clustered = kmeans::labels_in(area, n, k, draws, 0, labels)?;
+    Ok(clustered.at)
 }
 
 // The same on the working list; 7 where there are too few draws.
@@ -51,7 +48,7 @@ fn run_labels(
     ensures floats_unchanged { drop (work_doubles n) floats.new ≡ drop (work_doubles n) floats.old }
 {
     if kmeans_answers::too_few(draws.len(), k) {
-        return Kmeans::Stopped(Stop::Short(0));
+        return Err(KmeansError::Stopped(Stop::Short(0)));
     }
     let end = 5 * (n * n);
     labels_alone(points, n, k, draws, labels, &mut floats[..end])
@@ -71,10 +68,7 @@ pub fn kmeans_labels(
         ≡ labels_leaf points.now n k draws.now labels.old floats.old numbers.old }
 {
     let sized = kmeans_answers::lists_fit(n, labels.len(), n, floats.len(), numbers.len());
-    let asked = kmeans_answers::check(points.len(), n, sized, k, 0, 0);
-    if kmeans_answers::number_of(asked) != 0 {
-        return asked;
-    }
+    kmeans_answers::check(points.len(), n, sized, k, 0, 0)?;
     let answer = run_labels(points, n, k, draws, labels, floats);
     kmeans_answers::wipe(n, floats, numbers);
     answer

@@ -35,12 +35,9 @@ pub fn lloyd(
 {
     let fits = kmeans_answers::lists_fit(n, labels.len(), n, floats.len(), numbers.len());
     let bad = lists::first_from(n, centres);
-    let asked = kmeans_answers::check(points.len(), n, fits, centres.len(), bad, centres.len());
-    if kmeans_answers::number_of(asked) != 0 {
-        return asked;
-    }
+    kmeans_answers::check(points.len(), n, fits, centres.len(), bad, centres.len())?;
     let end = 5 * (n * n);
     lloyd_alone(points, n, centres, labels, &mut floats[..end]);
     kmeans_answers::wipe(n, floats, numbers);
-    Kmeans::Done(0)
+    Ok(0)
 }

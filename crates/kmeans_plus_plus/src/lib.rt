@@ -15,8 +15,7 @@ ghost use Rattle.kmeans_answers.specs.Leaf.{Points, took_of, ran_of};
 ghost use Rattle.kmeans_plus_plus.specs.Leaves.{plus_plus_leaf};
 
 use draws::Stop;
-use kmeans_answers::Kmeans;
-use plusplus::Seeded;
+use kmeans_answers::{Kmeans, KmeansError};
 
 // The centres, found in a list apart: a draw out of range leaves those that were lent as they were.
 fn centres_apart(
@@ -31,13 +30,9 @@ fn centres_apart(
     ensures { record { answer = refusal_of result; read = read_of result; out = centres.new }
         ≡ took_of draws.now (seeding (squared_at (points_at area.now n) n) n (length centres.old) 0 draws.now) centres.old }
 {
-    match kmeans::seed_in(area, n, draws, 0, found, weights) {
-        Seeded::Stopped(s) => Kmeans::Stopped(s),
-        Seeded::Done(next) => {
-            centres.copy_from_slice(found);
-            Kmeans::Done(next)
-        }
-    }
+    let next = kmeans::seed_in(area, n, draws, 0, found, weights)?;
+    centres.copy_from_slice(found);
+    Ok(next)
 }
 
 // The centres of k groups, with the areas in a lent list.
@@ -74,7 +69,7 @@ fn run_plus_plus(
     ensures floats_unchanged { drop (work_doubles n) floats.new ≡ drop (work_doubles n) floats.old }
 {
     if kmeans_answers::too_few(draws.len(), k) {
-        return Kmeans::Stopped(Stop::Short(0));
+        return Err(KmeansError::Stopped(Stop::Short(0)));
     }
     let end = 5 * (n * n);
     centres_alone(points, n, k, draws, centres, &mut floats[..end])
@@ -94,10 +89,7 @@ pub fn kmeans_plus_plus(
         ≡ plus_plus_leaf points.now n k draws.now centres.old floats.old numbers.old }
 {
     let fits = kmeans_answers::lists_fit(n, centres.len(), k, floats.len(), numbers.len());
-    let asked = kmeans_answers::check(points.len(), n, fits, k, 0, 0);
-    if kmeans_answers::number_of(asked) != 0 {
-        return asked;
-    }
+    kmeans_answers::check(points.len(), n, fits, k, 0, 0)?;
     let answer = run_plus_plus(points, n, k, draws, centres, floats);
     kmeans_answers::wipe(n, floats, numbers);
     answer

@@ -8,14 +8,18 @@ use lib.Dec.{eqb}
 use lib.ListN.{length}
 use lib.Ieee.{Float}
 use Rattle.refusals.specs.Table.{Refusal}
+use Rattle.draws.specs.declared.Stop.{Stop}
 use Rattle.draws.specs.declared.Stop.TheVariants.{Rounds, Short, DrawOutOfRange, ClusteringFailed}
+use Rattle.draws.specs.Stops.{stop_number}
 use Rattle.partition.specs.Partition.{has}
 use Rattle.round.specs.Round.{Run, done, ended, round_of}
 use Rattle.certain_runs.specs.Certain.{CertainRun}
 use Rattle.certain_runs.proofs.Runs.{rounds}
 use Rattle.onc_run.proofs.Runs.{all, all_length}
-use Rattle.onc_answers.specs.declared.Onc.{Onc}
-use Rattle.onc_answers.specs.Answers.{Answer, number_of, answer_of, refusing}
+use Rattle.std.specs.Prelude.{⊤, Result, Ok, Err}
+use Rattle.onc_answers.specs.declared.OncError.{OncError}
+use Rattle.onc_answers.specs.declared.OncError.TheVariants.{InvalidRepeat, InvalidCorrelationMatrix, TooLarge, CellCount, ListLength, Stopped}
+use Rattle.onc_answers.specs.Answers.{answer_of, refusal_of, error_number, refusing}
 use Rattle.onc_checks.specs.Checks.{lists_fit, shape_of}
 use Rattle.onc_run.specs.Run.{Lists, Outcome, Limits, run_of, ran}
 use Rattle.onc.specs.Onc.{shape, group_of}
@@ -82,29 +86,42 @@ first book rows cols repeat draws l =
     ran_first book rows cols repeat l h.0 h.1 (run_of book rows repeat draws) (within_certain book rows repeat draws h.1))
     (λ e. not_started (shape_cause book rows cols repeat l e) (at_zero (shape book rows cols repeat l) (shape_place book rows cols repeat l)) refl)
 
+-- no error has the number 0
+stop_some : (s : Stop) → stop_number s ≡ 0 → ⊥
+stop_some Rounds h = omega arith
+stop_some (Short k) h = omega arith
+stop_some (DrawOutOfRange p) h = omega arith
+stop_some ClusteringFailed h = omega arith
+
+error_some : (e : OncError) → error_number e ≡ 0 → ⊥
+error_some InvalidRepeat h = omega arith
+error_some InvalidCorrelationMatrix h = omega arith
+error_some TooLarge h = omega arith
+error_some CellCount h = omega arith
+error_some ListLength h = omega arith
+error_some (Stopped s) h = stop_some s h
+
 -- what the check of a call answers is the refusal before the run, though whether the lists fit is known of at most 256 names alone
-module _ (book : List Float) (rows cols repeat : ℕ) (draws : List ℕ) (l : Lists) (asked : Onc) (fits : Bool)
+module _ (book : List Float) (rows cols repeat : ℕ) (draws : List ℕ) (l : Lists) (asked : Result ⊤ OncError) (fits : Bool)
     (fit : rows ≤ 256 → fits ≡ lists_fit rows (length l.order) (length l.sizes) (length l.scores) (length l.ordered) (length l.floats) (length l.numbers))
-    (is : answer_of asked ≡ refusing (shape_of repeat rows cols (length book) fits)) where
-  asked_is : answer_of asked ≡ refusing (shape book rows cols repeat l)
-  asked_is = is ∙ ap refusing (shape_asked repeat rows cols (length book) fits _ fit)
+    (is : refusal_of asked ≡ shape_of repeat rows cols (length book) fits) where
+  asked_is : refusal_of asked ≡ shape book rows cols repeat l
+  asked_is = is ∙ shape_asked repeat rows cols (length book) fits _ fit
 
-  number_is : number_of asked ≡ (shape book rows cols repeat l).number
-  number_is = ap (λ (a : Answer). a.refused.number) asked_is
-
-  pub asked_none : number_of asked ≡ 0 → eqb (shape book rows cols repeat l).number 0 ≡ true
-  asked_none e = eq-eqb (shape book rows cols repeat l).number 0 (sym number_is ∙ e)
+  pub asked_none : (u : ⊤) → asked ≡ Ok u → eqb (shape book rows cols repeat l).number 0 ≡ true
+  asked_none u e = eq-eqb (shape book rows cols repeat l).number 0 (sym (ap (λ (q : Refusal). q.number) asked_is) ∙ ap (λ (a : Result ⊤ OncError). (refusal_of a).number) e)
 
   -- a refusal keeps every list
-  pub asked_kept : (number_of asked ≡ 0 → ⊥) → ◌≡◌ {A = Outcome} (record { answer = answer_of asked; lists = l }) (group_of book rows cols repeat draws l)
-  asked_kept h =
-      ap (λ (a : Answer). record { answer = a; lists = l }) asked_is
-      ∙ sym (call_refused book rows cols repeat draws l (ne_eqb (shape book rows cols repeat l).number 0 (λ e. h (number_is ∙ e))))
+  pub asked_kept : (e : OncError) → asked ≡ Err e → ◌≡◌ {A = Outcome} (record { answer = answer_of (Err e); lists = l }) (group_of book rows cols repeat draws l)
+  asked_kept e h =
+      let q : refusal_of (Err e) ≡ shape book rows cols repeat l = ap refusal_of (sym h) ∙ asked_is in
+      ap (λ (r : Refusal). record { answer = refusing r; lists = l }) q
+      ∙ sym (call_refused book rows cols repeat draws l (ne_eqb (shape book rows cols repeat l).number 0 (λ z. error_some e (ap (λ (r : Refusal). r.number) q ∙ z))))
 
   -- and without one the run may start
-  pub asked_fair : number_of asked ≡ 0
+  pub asked_fair : (u : ⊤) → asked ≡ Ok u
       → Limits book rows repeat (length l.order) (length l.sizes) (length l.scores) (length l.floats) (length l.numbers) × (length l.ordered ≡ rows * rows)
-  asked_fair e = let w = (shape_within book rows cols repeat l (asked_none e)).1 in (w.limits, w.ordered_long)
+  asked_fair u e = let w = (shape_within book rows cols repeat l (asked_none u e)).1 in (w.limits, w.ordered_long)
 
-  pub asked_ran : number_of asked ≡ 0 → {o : Outcome} → o ≡ ran book rows (run_of book rows repeat draws) l → o ≡ group_of book rows cols repeat draws l
-  asked_ran e h = h ∙ sym (call_ran book rows cols repeat draws l (asked_none e))
+  pub asked_ran : (u : ⊤) → asked ≡ Ok u → {o : Outcome} → o ≡ ran book rows (run_of book rows repeat draws) l → o ≡ group_of book rows cols repeat draws l
+  asked_ran u e h = h ∙ sym (call_ran book rows cols repeat draws l (asked_none u e))

@@ -53,10 +53,7 @@ fn group(
         floats.len(),
         numbers.len(),
     );
-    let asked = onc_checks::check(repeat, rows, cols, book.len(), fits);
-    if onc_answers::number_of(asked) != 0 {
-        return asked;
-    }
+    onc_checks::check(repeat, rows, cols, book.len(), fits)?;
     onc_run::finish(
         book, rows, repeat, draws, seeded, seed, order, sizes, scores, ordered, floats, numbers,
     )

@@ -2,14 +2,21 @@
 #![tactic(auto)]
 
 ghost use Rattle.std.specs.Prelude.{◌≡◌};
+ghost use Rattle.onc_answers.specs.declared.OncError.TheVariants.{Stopped};
 ghost use Rattle.onc_answers.specs.Answers.{number_of, place_of, groups_of, read_of};
 
 use draws::Stop;
 
-// A grouping, with the number of its groups and the draws read; or the first row of the table of refusals that applies.
+// A grouping: the number of its groups, and of the draws read.
 #[derive(Clone, Copy)]
-pub enum Onc {
-    Grouped { groups: usize, draws: usize },
+pub struct Grouped {
+    pub groups: usize,
+    pub draws: usize,
+}
+
+// The first row of the table of refusals that applies.
+#[derive(Clone, Copy)]
+pub enum OncError {
     InvalidRepeat,
     InvalidCorrelationMatrix,
     TooLarge,
@@ -18,21 +25,30 @@ pub enum Onc {
     Stopped(Stop),
 }
 
+// What the grouping answers.
+pub type Onc = Result<Grouped, OncError>;
+
+// What ended a run, as its row.
+impl From<Stop> for OncError {
+    ghost from_gives = { λ s e. e ≡ Stopped s };
+
+    fn from(s: Stop) -> OncError {
+        OncError::Stopped(s)
+    }
+}
+
 // The table's number; 0 for a grouping.
 pub fn number_of(a: Onc) -> usize
     ensures { result ≡ number_of a }
 {
     match a {
-        Onc::Grouped {
-            groups: _groups,
-            draws: _draws,
-        } => 0,
-        Onc::InvalidRepeat => 1,
-        Onc::InvalidCorrelationMatrix => 2,
-        Onc::TooLarge => 4,
-        Onc::CellCount => 5,
-        Onc::ListLength => 6,
-        Onc::Stopped(s) => draws::stop_number(s),
+        Ok(_) => 0,
+        Err(OncError::InvalidRepeat) => 1,
+        Err(OncError::InvalidCorrelationMatrix) => 2,
+        Err(OncError::TooLarge) => 4,
+        Err(OncError::CellCount) => 5,
+        Err(OncError::ListLength) => 6,
+        Err(OncError::Stopped(s)) => draws::stop_number(s),
     }
 }
 
@@ -41,16 +57,8 @@ pub fn place_of(a: Onc) -> usize
     ensures { result ≡ place_of a }
 {
     match a {
-        Onc::Grouped {
-            groups: _groups,
-            draws: _draws,
-        } => 0,
-        Onc::InvalidRepeat => 0,
-        Onc::InvalidCorrelationMatrix => 0,
-        Onc::TooLarge => 0,
-        Onc::CellCount => 0,
-        Onc::ListLength => 0,
-        Onc::Stopped(s) => draws::stop_place(s),
+        Err(OncError::Stopped(s)) => draws::stop_place(s),
+        _ => 0,
     }
 }
 
@@ -59,16 +67,8 @@ pub fn groups_of(a: Onc) -> usize
     ensures { result ≡ groups_of a }
 {
     match a {
-        Onc::Grouped {
-            groups,
-            draws: _draws,
-        } => groups,
-        Onc::InvalidRepeat => 0,
-        Onc::InvalidCorrelationMatrix => 0,
-        Onc::TooLarge => 0,
-        Onc::CellCount => 0,
-        Onc::ListLength => 0,
-        Onc::Stopped(_s) => 0,
+        Ok(g) => g.groups,
+        Err(_) => 0,
     }
 }
 
@@ -77,15 +77,7 @@ pub fn read_of(a: Onc) -> usize
     ensures { result ≡ read_of a }
 {
     match a {
-        Onc::Grouped {
-            groups: _groups,
-            draws,
-        } => draws,
-        Onc::InvalidRepeat => 0,
-        Onc::InvalidCorrelationMatrix => 0,
-        Onc::TooLarge => 0,
-        Onc::CellCount => 0,
-        Onc::ListLength => 0,
-        Onc::Stopped(_s) => 0,
+        Ok(g) => g.draws,
+        Err(_) => 0,
     }
 }

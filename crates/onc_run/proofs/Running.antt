@@ -1,4 +1,5 @@
 -- Laws of the steps of a call: what the rounds ask of the lists, and what is left of them once the working lists are wiped.
+use Rattle.std.specs.Prelude.{Result, Ok, Err}
 use Prim.Native.Nat.{ℕ, ◌+◌, ◌*◌, ◌<◌, ◌≤◌, zero-le}
 use mathlib.Core.Path.{◌≡◌, refl, sym, ◌∙◌, ap, subst}
 use mathlib.Core.Bool.{Bool}
@@ -14,14 +15,14 @@ use Rattle.lists.proofs.Parts.{drop_behind}
 use Rattle.refusals.specs.Table.{work_doubles, work_numbers, wiped, wiped_numbers}
 use Rattle.distance.specs.Distance.{cell_through}
 use Rattle.draws.specs.declared.Stop.{Stop}
+use Rattle.round_top.proofs.Rounding.{top_parts}
 use Rattle.round_top.specs.declared.Top.{Top}
-use Rattle.round_top.specs.declared.Top.TheVariants.{Done, Stopped as Ended}
 use Rattle.plusplus_seeded.specs.declared.Source.{Source}
 use Rattle.round.specs.Round.{Run, done, ended, round_of}
 use Rattle.round.specs.Made.{round_given}
-use Rattle.round_top.specs.Steps.{Ready, RoundLeaves, top_of, order_after, sizes_after, scores_after}
+use Rattle.round_top.specs.Steps.{top, Ready, RoundLeaves, top_of, order_after, sizes_after, scores_after}
 use Rattle.round.proofs.Runs.{Whole}
-use Rattle.onc_answers.specs.declared.Onc.TheVariants.{Grouped, Stopped}
+use Rattle.onc_answers.specs.declared.OncError.TheVariants.{Stopped}
 use Rattle.onc_answers.specs.Answers.{answer_of}
 use Rattle.onc_run.specs.Run.{Lists, Outcome, Limits, run_of, draws_of, ran}
 use Rattle.onc_run.specs.Steps.{Ran}
@@ -83,7 +84,7 @@ module _ (book : List Float) (n repeat : ℕ) (draws : List ℕ) (seeded : Bool)
   behind = drop_behind n (work_numbers n) (front ++ drop n wi) wi (omega arith) (drop_at front (drop n wi) n front_long)
 
   -- what it leaves
-  pub run_ran : {a : Top} {order' sizes' : List ℕ} {scores' floats' : List Float} {wi' : List ℕ}
+  pub run_ran : {a : Result Top Stop} {order' sizes' : List ℕ} {scores' floats' : List Float} {wi' : List ℕ}
       → RoundLeaves (round_of book n repeat 32 (take (length order) (front ++ drop n wi)) 0 (round_given src draws book n repeat 32 (take (length order) (front ++ drop n wi)))) n 32 a order order' sizes sizes' scores scores' (front ++ drop n wi) wi' floats floats'
       → Ran (run_of book n repeat (draws_of seeded seed book n repeat draws)) n a order order' sizes sizes' scores scores' floats floats' wi wi'
   unfolding run_of
@@ -103,7 +104,7 @@ module _ (book : List Float) (n repeat : ℕ) (draws : List ℕ) (seeded : Bool)
       }
 
 -- what a call leaves, by the answer of its run
-module _ (book : List Float) (n : ℕ) (r : Run) (l : Lists) {a : Top} {order sizes : List ℕ} {scores floats : List Float} {wi : List ℕ}
+module _ (book : List Float) (n : ℕ) (r : Run) (l : Lists) {a : Result Top Stop} {order sizes : List ℕ} {scores floats : List Float} {wi : List ℕ}
     (h : Ran r n a l.order order l.sizes sizes l.scores scores l.floats floats l.numbers wi) where
   module _ {floats' : List Float} {wi' : List ℕ} (e : floats' ≡ wiped n floats) (e' : wi' ≡ wiped_numbers n wi) where
     floats_wiped : floats' ≡ wiped n l.floats
@@ -112,22 +113,22 @@ module _ (book : List Float) (n : ℕ) (r : Run) (l : Lists) {a : Top} {order si
     numbers_wiped : wi' ≡ wiped_numbers n l.numbers
     numbers_wiped = e' ∙ ap (λ (x : List ℕ). replicate (work_numbers n) 0 ++ x) h.behind
 
-    pub left_stopped : (s : Stop) → a ≡ Ended s
+    pub left_stopped : (s : Stop) → a ≡ Err s
         → ◌≡◌ {A = Outcome}
-        (record { answer = answer_of (Stopped s); lists = record { order = order; sizes = sizes; scores = scores; ordered = l.ordered; floats = floats'; numbers = wi' } })
+        (record { answer = answer_of (Err (Stopped s)); lists = record { order = order; sizes = sizes; scores = scores; ordered = l.ordered; floats = floats'; numbers = wi' } })
         (ran book n r l)
     left_stopped s is = by r h.answer_is h.ordered h.sized h.scored
       where
         by : (r : Run) → a ≡ top_of r → order ≡ order_after r l.order → sizes ≡ sizes_after n r l.sizes → scores ≡ scores_after r l.scores
             → ◌≡◌ {A = Outcome}
-            (record { answer = answer_of (Stopped s); lists = record { order = order; sizes = sizes; scores = scores; ordered = l.ordered; floats = floats'; numbers = wi' } })
+            (record { answer = answer_of (Err (Stopped s)); lists = record { order = order; sizes = sizes; scores = scores; ordered = l.ordered; floats = floats'; numbers = wi' } })
             (ran book n r l)
         by (done t ms read rest) ea eo es ec = let z : ◌≡◌ {A = ℕ} 0 1 = cc in let y : ⊥ = omega arith in absurd y
         by (ended q ms) ea eo es ec = let z : q ≡ s = cc in rw (eo, es, ec, floats_wiped, numbers_wiped, z) refl
 
-    pub left_grouped : (groups read : ℕ) {ordered : List Float} → a ≡ Done groups read → length order ≡ n → ordered ≡ matrix_of (cell_through book n order) (length order)
+    pub left_grouped : (groups read : ℕ) {ordered : List Float} → a ≡ top groups read → length order ≡ n → ordered ≡ matrix_of (cell_through book n order) (length order)
         → ◌≡◌ {A = Outcome}
-        (record { answer = answer_of (Grouped groups read); lists = record { order = order; sizes = sizes; scores = scores; ordered = ordered; floats = floats'; numbers = wi' } })
+        (record { answer = answer_of (Ok (record { groups = groups; draws = read })); lists = record { order = order; sizes = sizes; scores = scores; ordered = ordered; floats = floats'; numbers = wi' } })
         (ran book n r l)
     left_grouped groups read {ordered} is long cells = by r h.answer_is h.ordered h.sized h.scored
       where
@@ -136,16 +137,15 @@ module _ (book : List Float) (n : ℕ) (r : Run) (l : Lists) {a : Top} {order si
 
         by : (r : Run) → a ≡ top_of r → order ≡ order_after r l.order → sizes ≡ sizes_after n r l.sizes → scores ≡ scores_after r l.scores
             → ◌≡◌ {A = Outcome}
-            (record { answer = answer_of (Grouped groups read); lists = record { order = order; sizes = sizes; scores = scores; ordered = ordered; floats = floats'; numbers = wi' } })
+            (record { answer = answer_of (Ok (record { groups = groups; draws = read })); lists = record { order = order; sizes = sizes; scores = scores; ordered = ordered; floats = floats'; numbers = wi' } })
             (ran book n r l)
         by (ended q ms) ea eo es ec = let z : ◌≡◌ {A = ℕ} 0 1 = cc in let y : ⊥ = omega arith in absurd y
         by (done t ms last rest) ea eo es ec =
-            let z : groups ≡ length t.groups = cc in
-            let z' : read ≡ last = cc in
-            rw (matrix, eo, es, ec, floats_wiped, numbers_wiped, z, z') refl
+            let p = top_parts groups (length t.groups) read last (sym is ∙ ea) in
+            rw (matrix, eo, es, ec, floats_wiped, numbers_wiped, p.0, p.1) refl
 
   -- each number of the order is a name
-  pub order_below : (groups read : ℕ) → a ≡ Done groups read → Whole n r → (j : ℕ) → j < length order → numbers order j < n
+  pub order_below : (groups read : ℕ) → a ≡ top groups read → Whole n r → (j : ℕ) → j < length order → numbers order j < n
   order_below groups read is = by r h.answer_is h.ordered
     where
       by : (r : Run) → a ≡ top_of r → order ≡ order_after r l.order → Whole n r → (j : ℕ) → j < length order → numbers order j < n

@@ -7,7 +7,8 @@ ghost use Rattle.onc_answers.specs.Answers.{answer_of};
 ghost use Rattle.onc_run.specs.Run.{Limits, run_of, draws_of, ran};
 ghost use Rattle.onc_run.specs.Steps.{Ran};
 
-use onc_answers::Onc;
+use draws::Stop;
+use onc_answers::{Grouped, Onc};
 use plusplus_seeded::Source;
 use round_top::Top;
 
@@ -46,7 +47,7 @@ fn run(
     scores: &mut [f64],
     floats: &mut [f64],
     numbers: &mut [usize],
-) -> Top
+) -> Result<Top, Stop>
     requires { Limits book.now n repeat (length order.old) (length sizes.old) (length scores.old) (length floats.old) (length numbers.old) }
     ensures { Ran (run_of book.now n repeat (draws_of seeded seed book.now n repeat draws.now)) n result order.old order.new sizes.old sizes.new
         scores.old scores.new floats.old floats.new numbers.old numbers.new }
@@ -94,18 +95,14 @@ pub fn finish(
           numbers = numbers.old;
         }) }
 {
-    let top = run(
+    let ran = run(
         book, n, repeat, draws, seeded, seed, order, sizes, scores, floats, numbers,
     );
     kmeans_answers::wipe(n, floats, numbers);
-    match top {
-        Top::Stopped(s) => Onc::Stopped(s),
-        Top::Done(groups, read) => {
-            book::cells_through(book, n, order, ordered);
-            Onc::Grouped {
-                groups,
-                draws: read,
-            }
-        }
-    }
+    let top = ran?;
+    book::cells_through(book, n, order, ordered);
+    Ok(Grouped {
+        groups: top.groups,
+        draws: top.read,
+    })
 }

@@ -14,10 +14,9 @@ fn append_members(labels: &[usize], l: usize, order: &mut [usize], at: usize) ->
     ensures order_after { order.new ≡ put at (length (members (numbers labels.now) (length labels.now) l)) order.old
         (members (numbers labels.now) (length labels.now) l) }
 {
-    let m = labels.len();
     let mut to = at;
-    for i in 0..m {
-        if labels[i] != l {
+    for (i, x) in labels.iter().enumerate() {
+        if *x != l {
             continue;
         }
         order[to] = i;
@@ -55,10 +54,8 @@ fn label_members(members: &[usize], g: usize, labels: &mut [usize])
     requires { (j : ℕ) → j < length members.now → numbers members.now j < length labels.old }
     ensures { labels.new ≡ listed (λ i. cond (has members.now i) g (numbers labels.old i)) (length labels.old) }
 {
-    let n = members.len();
-    for j in 0..n {
-        let i = members[j];
-        labels[i] = g;
+    for i in members {
+        labels[*i] = g;
     }
 }
 
@@ -69,8 +66,8 @@ pub fn labels_from_clusters(order: &[usize], sizes: &[usize], count: usize, labe
 {
     labels.fill(0);
     let mut at = 0;
-    for g in 0..count {
-        let end = at + sizes[g];
+    for (g, size) in sizes[..count].iter().enumerate() {
+        let end = at + *size;
         label_members(&order[at..end], g, labels);
         at = end;
     }

@@ -1,4 +1,5 @@
 -- A seeding takes exactly its count of draws, each centre is an item, and no draw behind those that it takes matters.
+use Rattle.std.specs.Prelude.{Ok, Err}
 use Prim.Native.Nat.{ℕ, zero, suc, ◌+◌, ◌-◌, ◌*◌, ◌<◌, ◌≤◌, zero-le}
 use mathlib.Core.Path.{◌≡◌, refl, sym, ◌∙◌, ap, subst}
 use mathlib.Core.List.{List, [], ◌∷◌, ◌++◌}
@@ -17,7 +18,6 @@ use Rattle.draws.proofs.Taken.{Ends, Among, behind, take_behind, then_ends, then
 use Rattle.plusplus_pick.specs.Potentials.{with}
 use Rattle.plusplus_trials.specs.Trials.{next_of}
 use Rattle.plusplus_trials.proofs.Centring.{next_took, next_behind}
-use Rattle.plusplus.specs.declared.Seeded.TheVariants.{Done, Stopped}
 use Rattle.plusplus.specs.Seeding.{centres_of, seeding, EachBelow, SeededBy}
 
 below_one : (m c : ℕ) → c < m → EachBelow m (c ∷ [])
@@ -94,35 +94,35 @@ module _ (q : ℕ → ℕ → Float) (m k : ℕ) (z : 0 < m) (one_of_lem : 0 < k
       (λ c rest h. centres_behind q m (trials_of k) z (trials_some k) (k - 1) (listed (q c) m) (c ∷ []) (at + 1) rest b (omega (arith, ap length h.1 ∙ length-drop 1 p))))
 
 -- what the answer of a call says of the seeding, for callers
-done_is : (R : Drawn (List ℕ)) {next n : ℕ} {l : List ℕ} → SeededBy R next (Done n) l → (rest : List ℕ) × (n ≡ next) × (R ≡ drawn l rest)
+done_is : (R : Drawn (List ℕ)) {next n : ℕ} {l : List ℕ} → SeededBy R next (Ok n) l → (rest : List ℕ) × (n ≡ next) × (R ≡ drawn l rest)
 done_is (drawn cs rest) {next} {n} {l} s =
-    let a : Done n ≡ Done next = s.answer_is in
+    let a : Ok n ≡ Ok next = s.answer_is in
     let e : n ≡ next = cc in
     (rest, e, ap (λ (x : List ℕ). drawn x rest) (sym s.centres_are))
 done_is (refused p) {next} {n} {l} s =
-    let a : Done n ≡ Stopped (DrawOutOfRange p) = s.answer_is in
+    let a : Ok n ≡ Err (DrawOutOfRange p) = s.answer_is in
     let z : ◌≡◌ {A = ℕ} 0 1 = cc in
     absurd (omega arith)
 
-stopped_is : (R : Drawn (List ℕ)) {next : ℕ} {q : Stop} {l : List ℕ} → SeededBy R next (Stopped q) l → (p : ℕ) × (R ≡ refused p) × (q ≡ DrawOutOfRange p)
+stopped_is : (R : Drawn (List ℕ)) {next : ℕ} {q : Stop} {l : List ℕ} → SeededBy R next (Err q) l → (p : ℕ) × (R ≡ refused p) × (q ≡ DrawOutOfRange p)
 stopped_is (drawn cs rest) {next} {q} {l} s =
-    let a : Stopped q ≡ Done next = s.answer_is in
+    let a : Err q ≡ Ok next = s.answer_is in
     let z : ◌≡◌ {A = ℕ} 0 1 = cc in
     absurd (omega arith)
 stopped_is (refused p) {next} {q} {l} s =
-    let a : Stopped q ≡ Stopped (DrawOutOfRange p) = s.answer_is in
+    let a : Err q ≡ Err (DrawOutOfRange p) = s.answer_is in
     let e : q ≡ DrawOutOfRange p = cc in
     (p, refl, e)
 
 module _ (q : ℕ → ℕ → Float) (m k : ℕ) (z : 0 < m) (one_of_lem : 0 < k) (at : ℕ) (ds : List ℕ) (next : ℕ) (l : List ℕ) where
-  pub seed_done : {n : ℕ} → SeededBy (seeding q m k at ds) next (Done n) l
+  pub seed_done : {n : ℕ} → SeededBy (seeding q m k at ds) next (Ok n) l
       → (n ≡ next) × (length l ≡ k) × EachBelow m l × (seeding q m k at ds ≡ drawn l (drop (seeding_of k) ds)) × (seeding_of k ≤ length ds)
   seed_done s =
       let v = done_is (seeding q m k at ds) s in
       let t = subst (Ends (Took m k (seeding_of k) ds) (Among at (seeding_of k))) v.2 (seeding_took q m k z one_of_lem at ds) in
       (v.1, t.0, t.1, v.2 ∙ ap (drawn l) t.2, t.3)
 
-  pub seed_stopped : {w : Stop} → SeededBy (seeding q m k at ds) next (Stopped w) l
+  pub seed_stopped : {w : Stop} → SeededBy (seeding q m k at ds) next (Err w) l
       → (p : ℕ) × (w ≡ DrawOutOfRange p) × (seeding q m k at ds ≡ refused p) × (at ≤ p) × (p < at + seeding_of k)
   seed_stopped s =
       let v = stopped_is (seeding q m k at ds) s in

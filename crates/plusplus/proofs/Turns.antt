@@ -1,4 +1,5 @@
 -- The steps of the loop over centres, and what the answers of the calls say of the definition.
+use Rattle.std.specs.Prelude.{Ok, Err, Result}
 use Prim.Native.Nat.{ℕ, suc, ◌+◌, ◌-◌, ◌*◌, ◌<◌, ◌≤◌}
 use mathlib.Core.Path.{◌≡◌, refl, sym, ◌∙◌, subst}
 use mathlib.Core.List.{List, [], ◌∷◌, ◌++◌}
@@ -9,7 +10,6 @@ use lib.Seq.{drop-drop}
 use lib.Ieee.{Float}
 use Rattle.lists.specs.Lists.{cells, listed, row}
 use Rattle.lists.proofs.Matrix.{row_long}
-use Rattle.draws.specs.declared.Draw.TheVariants as draw
 use Rattle.draws.specs.declared.Stop.{Stop}
 use Rattle.draws.specs.declared.Stop.TheVariants.{DrawOutOfRange}
 use Rattle.draws.specs.Counts.{trials_of}
@@ -17,12 +17,9 @@ use Rattle.draws.specs.Draws.{Drawn, drawn, refused, index_draw}
 use Rattle.draws.specs.Stops.{draw_of}
 use Rattle.draws.proofs.Taken.{draw_value, draw_stopped}
 use Rattle.plusplus_pick.specs.declared.Trial.{Trial}
-use Rattle.plusplus_trials.specs.declared.Tried.TheVariants as tried
 use Rattle.plusplus_pick.specs.Potentials.{with}
 use Rattle.plusplus_trials.specs.Trials.{next_of, tried_of}
 use Rattle.plusplus_trials.proofs.Centring.{next_took, search_stopped, search_best}
-use Rattle.plusplus.specs.declared.Seeded.{Seeded}
-use Rattle.plusplus.specs.declared.Seeded.TheVariants.{Done, Stopped}
 use Rattle.plusplus.specs.Seeding.{centres_of, seeding, Weights, SeededBy}
 
 -- the draws of one centre are among those of the centres that are left
@@ -44,13 +41,13 @@ abbrev pub StoppedBy : {S : Type 0} → Drawn S → Stop → Type 0
 StoppedBy R s = (p : ℕ) × (R ≡ refused p) × (s ≡ DrawOutOfRange p)
 
 -- what a call that ends so answers
-pub seeded_stopped : (R : Drawn (List ℕ)) (next : ℕ) (s : Stop) (l : List ℕ) → StoppedBy R s → SeededBy R next (Stopped s) l
+pub seeded_stopped : (R : Drawn (List ℕ)) (next : ℕ) (s : Stop) (l : List ℕ) → StoppedBy R s → SeededBy R next (Err s) l
 seeded_stopped R next s l (p, e, h) = record { answer_is = rw (e, h) refl; centres_are = rw e tt }
 
-pub seeded_done : (R : Drawn (List ℕ)) (next n : ℕ) (l cs ds : List ℕ) → R ≡ drawn cs ds → l ≡ cs → n ≡ next → SeededBy R next (Done n) l
+pub seeded_done : (R : Drawn (List ℕ)) (next n : ℕ) (l cs ds : List ℕ) → R ≡ drawn cs ds → l ≡ cs → n ≡ next → SeededBy R next (Ok n) l
 seeded_done R next n l cs ds e h q = record { answer_is = rw (e, q) refl; centres_are = rw e h }
 
-pub seeded_same : (R R' : Drawn (List ℕ)) (n n' : ℕ) (r : Seeded) (l : List ℕ) → R ≡ R' → n ≡ n' → SeededBy R n r l → SeededBy R' n' r l
+pub seeded_same : (R R' : Drawn (List ℕ)) (n n' : ℕ) (r : Result ℕ Stop) (l : List ℕ) → R ≡ R' → n ≡ n' → SeededBy R n r l → SeededBy R' n' r l
 seeded_same R R' n n' r l e h s = subst (λ (x : ℕ). SeededBy R' x r l) h (subst (λ (D : Drawn (List ℕ)). SeededBy D n r l) e s)
 
 pub weights_stopped : (q : ℕ → ℕ → Float) (m : ℕ) (ws ws' : List Float) (D : Drawn Trial) {s : Stop} → StoppedBy D s → Weights q m ws D ws'
@@ -66,13 +63,13 @@ module _ (q : ℕ → ℕ → Float) (m t : ℕ) (z : 0 < m) (some : 0 < t) wher
   unfolding centres_of
   centre_refused k j at p ws cs draws l e = let r : k - j ≡ suc (k - (j + 1)) = omega arith in rw (r, e)
 
-  pub centre_stopped : (k j at : ℕ) {s : Stop} (ws : List Float) (cs draws : List ℕ) → j < k → tried_of (next_of q m t ws at (drop at draws)) ≡ tried.Stopped s
+  pub centre_stopped : (k j at : ℕ) {s : Stop} (ws : List Float) (cs draws : List ℕ) → j < k → tried_of (next_of q m t ws at (drop at draws)) ≡ Err s
       → StoppedBy (centres_of q m t (k - j) ws cs at (drop at draws)) s
   centre_stopped k j at ws cs draws l e =
       let v = search_stopped (next_of q m t ws at (drop at draws)) e in
       (v.0, centre_refused k j at v.0 ws cs draws l v.1, v.2)
 
-  pub centre_best : (k j at : ℕ) (b : Trial) (ws ws' : List Float) (cs draws : List ℕ) → j < k → tried_of (next_of q m t ws at (drop at draws)) ≡ tried.Best b
+  pub centre_best : (k j at : ℕ) (b : Trial) (ws ws' : List Float) (cs draws : List ℕ) → j < k → tried_of (next_of q m t ws at (drop at draws)) ≡ Ok b
       → Weights q m ws (next_of q m t ws at (drop at draws)) ws'
       → centres_of q m t (k - j) ws cs at (drop at draws) ≡ centres_of q m t (k - (j + 1)) ws' (cs ++ (b.pick ∷ [])) (at + t) (drop (at + t) draws)
   unfolding centres_of
@@ -92,11 +89,11 @@ module _ (q : ℕ → ℕ → Float) (m t : ℕ) (z : 0 < m) (some : 0 < t) wher
 
 -- the first centre, by the answer of its draw
 module _ (q : ℕ → ℕ → Float) (m k at : ℕ) (draws : List ℕ) (l : at < length draws) where
-  pub seeding_stopped : {s : Stop} → draw_of (index_draw m at (drop at draws)) ≡ draw.Stopped s → StoppedBy (seeding q m k at (drop at draws)) s
+  pub seeding_stopped : {s : Stop} → draw_of (index_draw m at (drop at draws)) ≡ Err s → StoppedBy (seeding q m k at (drop at draws)) s
   unfolding seeding
   seeding_stopped e = let v = draw_stopped m draws at l e in (at, rw v.1 refl, v.0)
 
-  pub seeding_value : {c : ℕ} → draw_of (index_draw m at (drop at draws)) ≡ draw.Value c
+  pub seeding_value : {c : ℕ} → draw_of (index_draw m at (drop at draws)) ≡ Ok c
       → seeding q m k at (drop at draws) ≡ centres_of q m (trials_of k) (k - 1) (listed (q c) m) (c ∷ []) (at + 1) (drop (at + 1) draws)
   unfolding seeding
   seeding_value e = rw (draw_value m draws at l e).1

@@ -18,9 +18,8 @@ fn keep_lesser(weights: &mut [f64], squares: &[f64])
     requires { length squares.now ≡ length weights.old }
     ensures { weights.new ≡ listed (λ i. spec.lesser_number (cells weights.old i) (cells squares.now i)) (length weights.old) }
 {
-    let m = weights.len();
-    for i in 0..m {
-        weights[i] = plusplus_pick::lesser_number(weights[i], squares[i]);
+    for (i, s) in squares.iter().enumerate() {
+        weights[i] = plusplus_pick::lesser_number(weights[i], *s);
     }
 }
 

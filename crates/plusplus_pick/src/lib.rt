@@ -33,10 +33,9 @@ pub fn sum_weights(weights: &[f64], sums: &mut [f64]) -> f64
     requires { length sums.old ≡ length weights.now }
     ensures { (result ≡ sum_to (cells weights.now) (length weights.now)) × RunningSums sums.new weights.now }
 {
-    let m = weights.len();
     let mut sum = 0.0;
-    for i in 0..m {
-        sum = sum + weights[i];
+    for (i, w) in weights.iter().enumerate() {
+        sum = sum + *w;
         sums[i] = sum;
     }
     sum
@@ -47,13 +46,12 @@ fn reached(sums: &[f64], x: f64) -> usize
     requires { 0 < length sums.now }
     ensures { result ≡ spec.first_over (cells sums.now) x (length sums.now) }
 {
-    let m = sums.len();
-    for i in 0..m {
-        if sums[i] > x {
+    for (i, s) in sums.iter().enumerate() {
+        if *s > x {
             return i;
         }
     }
-    m - 1
+    sums.len() - 1
 }
 
 // What a draw must be below.
@@ -82,10 +80,9 @@ pub fn potential(weights: &[f64], squares: &[f64]) -> f64
     requires { length squares.now ≡ length weights.now }
     ensures { result ≡ sum_to (λ i. spec.lesser_number (cells weights.now i) (cells squares.now i)) (length weights.now) }
 {
-    let m = weights.len();
     let mut sum = 0.0;
-    for i in 0..m {
-        sum = sum + lesser_number(weights[i], squares[i]);
+    for (i, w) in weights.iter().enumerate() {
+        sum = sum + lesser_number(*w, squares[i]);
     }
     sum
 }
@@ -103,13 +100,11 @@ fn two_least(weights: &[f64], a: &[f64], b: &[f64]) -> Potentials
     ensures { (result.first ≡ sum_to (λ i. lesser (cells a.now i) (cells weights.now i)) (length weights.now))
         × (result.second ≡ sum_to (λ i. lesser (cells b.now i) (cells weights.now i)) (length weights.now)) }
 {
-    let m = weights.len();
     let mut first = 0.0;
     let mut second = 0.0;
-    for i in 0..m {
-        let w = weights[i];
-        first = first + lists::lesser(a[i], w);
-        second = second + lists::lesser(b[i], w);
+    for (i, w) in weights.iter().enumerate() {
+        first = first + lists::lesser(a[i], *w);
+        second = second + lists::lesser(b[i], *w);
     }
     Potentials { first, second }
 }
@@ -134,10 +129,9 @@ fn one_least(weights: &[f64], a: &[f64]) -> f64
     requires { length a.now ≡ length weights.now }
     ensures { result ≡ sum_to (λ i. lesser (cells a.now i) (cells weights.now i)) (length weights.now) }
 {
-    let m = weights.len();
     let mut sum = 0.0;
-    for i in 0..m {
-        sum = sum + lists::lesser(a[i], weights[i]);
+    for (i, w) in weights.iter().enumerate() {
+        sum = sum + lists::lesser(a[i], *w);
     }
     sum
 }
@@ -170,17 +164,15 @@ fn four_least(weights: &[f64], a: &[f64], b: &[f64], c: &[f64], d: &[f64]) -> Fo
         × (result.third ≡ sum_to (λ i. lesser (cells c.now i) (cells weights.now i)) (length weights.now))
         × (result.fourth ≡ sum_to (λ i. lesser (cells d.now i) (cells weights.now i)) (length weights.now)) }
 {
-    let m = weights.len();
     let mut p = 0.0;
     let mut q = 0.0;
     let mut s = 0.0;
     let mut t = 0.0;
-    for i in 0..m {
-        let w = weights[i];
-        p = p + lists::lesser(a[i], w);
-        q = q + lists::lesser(b[i], w);
-        s = s + lists::lesser(c[i], w);
-        t = t + lists::lesser(d[i], w);
+    for (i, w) in weights.iter().enumerate() {
+        p = p + lists::lesser(a[i], *w);
+        q = q + lists::lesser(b[i], *w);
+        s = s + lists::lesser(c[i], *w);
+        t = t + lists::lesser(d[i], *w);
     }
     FourPotentials {
         first: p,

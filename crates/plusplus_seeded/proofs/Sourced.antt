@@ -1,4 +1,5 @@
 -- What `seed_by` answers, by either kind of source, and the generator that it leaves.
+use Rattle.std.specs.Prelude.{Ok, Err}
 use mathlib.Core.Path.{◌≡◌, refl, ◌∙◌, sym, ap, subst}
 use mathlib.Core.Bool.{Bool, true, false, cond}
 use mathlib.Core.List.{List, []}
@@ -11,12 +12,10 @@ use Rattle.draws.specs.Draws.{Drawn, drawn, refused}
 use Rattle.draws.specs.declared.Stop.{Stop}
 use Rattle.draws.specs.declared.Stop.TheVariants.{DrawOutOfRange}
 use Rattle.plusplus.specs.Seeding.{seeding, SeededBy}
-use Rattle.plusplus.specs.declared.Seeded.TheVariants as seeded
 use Rattle.rng_std.specs.Seeds.{key_of}
 use Rattle.rng_std.proofs.Ranges.{word_below}
 use Rattle.plusplus_seeded.specs.Seeded.{seed_made}
 use Rattle.plusplus_seeded.specs.declared.Source.{Source}
-use Rattle.plusplus_seeded.specs.declared.Supplied.TheVariants.{Done, Stopped}
 use Rattle.rng_std.specs.Words.{word_of}
 use Rattle.rng_std.specs.States.{key_in, Holds, Moved}
 use Rattle.plusplus_seeded.specs.Sources.{words_by, given, moved_on, RngOf, seed_draws, seed_next, SuppliedBy}
@@ -24,30 +23,30 @@ use Rattle.plusplus_seeded.proofs.Fine.{append_none}
 use Rattle.plusplus_seeded.proofs.Made.{seed_made_lem}
 
 -- what an answer with a source says
-done_by : (R : Drawn (List ℕ)) (next n : Source) (cs rest : List ℕ) → R ≡ drawn cs rest → n ≡ next → SuppliedBy R next (Done n) cs
+done_by : (R : Drawn (List ℕ)) (next n : Source) (cs rest : List ℕ) → R ≡ drawn cs rest → n ≡ next → SuppliedBy R next (Ok n) cs
 done_by R next n cs rest e h = record { answer_is = rw (e, h) refl; centres_are = rw e refl }
 
-stopped_by : (R : Drawn (List ℕ)) (next : Source) (cs : List ℕ) (s : Stop) (p : ℕ) → R ≡ refused p → s ≡ DrawOutOfRange p → SuppliedBy R next (Stopped s) cs
+stopped_by : (R : Drawn (List ℕ)) (next : Source) (cs : List ℕ) (s : Stop) (p : ℕ) → R ≡ refused p → s ≡ DrawOutOfRange p → SuppliedBy R next (Err s) cs
 stopped_by R next cs s p e h = record { answer_is = rw (e, h) refl; centres_are = rw e tt }
 
 -- by a list, what `seed` answered
-list_done : (R : Drawn (List ℕ)) {nx n : ℕ} {cs : List ℕ} → SeededBy R nx (seeded.Done n) cs → (n ≡ nx) × ((rest : List ℕ) × (R ≡ drawn cs rest))
+list_done : (R : Drawn (List ℕ)) {nx n : ℕ} {cs : List ℕ} → SeededBy R nx (Ok n) cs → (n ≡ nx) × ((rest : List ℕ) × (R ≡ drawn cs rest))
 list_done (drawn c rest) {nx} {n} {cs} s =
-    let a : seeded.Done n ≡ seeded.Done nx = s.answer_is in
+    let a : Ok n ≡ Ok nx = s.answer_is in
     let e : n ≡ nx = cc in
     (e, (rest, ap (λ (x : List ℕ). drawn x rest) (sym s.centres_are)))
 list_done (refused p) {nx} {n} {cs} s =
-    let a : seeded.Done n ≡ seeded.Stopped (DrawOutOfRange p) = s.answer_is in
+    let a : Ok n ≡ Err (DrawOutOfRange p) = s.answer_is in
     let z : ◌≡◌ {A = ℕ} 0 1 = cc in
     absurd (omega arith)
 
-list_stopped : (R : Drawn (List ℕ)) {nx : ℕ} {w : Stop} {cs : List ℕ} → SeededBy R nx (seeded.Stopped w) cs → (p : ℕ) × (R ≡ refused p) × (w ≡ DrawOutOfRange p)
+list_stopped : (R : Drawn (List ℕ)) {nx : ℕ} {w : Stop} {cs : List ℕ} → SeededBy R nx (Err w) cs → (p : ℕ) × (R ≡ refused p) × (w ≡ DrawOutOfRange p)
 list_stopped (drawn c rest) {nx} {w} {cs} s =
-    let a : seeded.Stopped w ≡ seeded.Done nx = s.answer_is in
+    let a : Err w ≡ Ok nx = s.answer_is in
     let z : ◌≡◌ {A = ℕ} 0 1 = cc in
     absurd (omega arith)
 list_stopped (refused p) {nx} {w} {cs} s =
-    let a : seeded.Stopped w ≡ seeded.Stopped (DrawOutOfRange p) = s.answer_is in
+    let a : Err w ≡ Err (DrawOutOfRange p) = s.answer_is in
     let e : w ≡ DrawOutOfRange p = cc in
     (p, refl, e)
 
@@ -74,19 +73,19 @@ module _ (src : Source) (draws : List ℕ) (q : ℕ → ℕ → Float) (m k : �
   pub by_seed : {count taken : ℕ} {cs : List ℕ} → 0 < m → src.seeded ≡ true → count ≡ seeding_of k
       → cs ≡ (seed_made (words_by src) q m k src.taken).centres → taken ≡ (seed_made (words_by src) q m k src.taken).next
       → SuppliedBy (seeding q m k src.at (given src draws (seed_draws src q m k))) (moved_on src (seeding_of k) (seed_next src q m k))
-      (Done (record { at = src.at + count; seeded = true; seed = src.seed; taken = taken })) cs
+      (Ok (record { at = src.at + count; seeded = true; seed = src.seed; taken = taken })) cs
   by_seed {count} {taken} {cs} z h n e t =
       done_by _ _ _ cs [] (seeding_made z h ∙ ap (λ (x : List ℕ). drawn x []) (sym e)) (rw (n, t) (sym (next_words h)))
 
-  pub listed_done : {n : ℕ} {cs : List ℕ} → src.seeded ≡ false → SeededBy (seeding q m k src.at (drop src.at draws)) (src.at + seeding_of k) (seeded.Done n) cs
+  pub listed_done : {n : ℕ} {cs : List ℕ} → src.seeded ≡ false → SeededBy (seeding q m k src.at (drop src.at draws)) (src.at + seeding_of k) (Ok n) cs
       → SuppliedBy (seeding q m k src.at (given src draws (seed_draws src q m k))) (moved_on src (seeding_of k) (seed_next src q m k))
-      (Done (record { at = n; seeded = false; seed = src.seed; taken = src.taken })) cs
+      (Ok (record { at = n; seeded = false; seed = src.seed; taken = src.taken })) cs
   listed_done {n} {cs} h s =
       let v = list_done (seeding q m k src.at (drop src.at draws)) s in
       done_by _ _ _ cs v.1.0 (ap (seeding q m k src.at) (by_list h) ∙ v.1.1) (rw v.0 (sym (next_list h)))
 
-  pub listed_stopped : {w : Stop} {cs : List ℕ} → src.seeded ≡ false → SeededBy (seeding q m k src.at (drop src.at draws)) (src.at + seeding_of k) (seeded.Stopped w) cs
-      → SuppliedBy (seeding q m k src.at (given src draws (seed_draws src q m k))) (moved_on src (seeding_of k) (seed_next src q m k)) (Stopped w) cs
+  pub listed_stopped : {w : Stop} {cs : List ℕ} → src.seeded ≡ false → SeededBy (seeding q m k src.at (drop src.at draws)) (src.at + seeding_of k) (Err w) cs
+      → SuppliedBy (seeding q m k src.at (given src draws (seed_draws src q m k))) (moved_on src (seeding_of k) (seed_next src q m k)) (Err w) cs
   listed_stopped {w} {cs} h s =
       let v = list_stopped (seeding q m k src.at (drop src.at draws)) s in
       stopped_by _ _ cs w v.0 (ap (seeding q m k src.at) (by_list h) ∙ v.1) v.2

@@ -39,11 +39,10 @@ fn draw_all(rng: &mut [u32], first: u64, total: f64, m: usize, draws: &mut [u64]
     ensures { (draws.new ≡ draws_by (rule_of (word_of (key_in rng.old)) total m) (length draws.old) first)
         × (result ≡ place_of (rule_of (word_of (key_in rng.old)) total m) (length draws.old) first) × Moved rng.old result rng.new }
 {
-    let t = draws.len();
     let mut taken = first;
-    for j in 0..t {
+    for draw in draws.iter_mut() {
         let d = draw_one(rng, taken, total, m);
-        draws[j] = d.value;
+        *draw = d.value;
         taken = d.taken;
     }
     taken
@@ -69,12 +68,17 @@ fn next_from(
     let count = draws.len();
     let total = plusplus_pick::sum_weights(weights, sums);
     let next = draw_all(rng, taken, total, m, draws);
-    let pick = match plusplus::centre_by_sums(squares, weights, sums, total, draws, 0, count) {
+    match plusplus::centre_by_sums(squares, weights, sums, total, draws, 0, count) {
         // never so: the generator's draws are in range
-        Err(_stop) => 0,
-        Ok(b) => b.pick,
-    };
-    Picked { pick, taken: next }
+        Err(_stop) => Picked {
+            pick: 0,
+            taken: next,
+        },
+        Ok(b) => Picked {
+            pick: b.pick,
+            taken: next,
+        },
+    }
 }
 
 // The centres behind the first. The weights are those with the first as centre. It answers how many words are then taken.

@@ -9,11 +9,10 @@ use lib.Seq.{drop-drop}
 use lib.Ieee.{Float, lt}
 use Rattle.lists.specs.Lists.{cells}
 use Rattle.lists.specs.Sums.{zero64, sum_to}
-use Rattle.draws.specs.declared.Draw.TheVariants as draw
+use Rattle.std.specs.Prelude.{Ok, Err}
 use Rattle.draws.specs.declared.Stop.{Stop}
 use Rattle.draws.specs.declared.Stop.TheVariants.{DrawOutOfRange}
 use Rattle.plusplus_pick.specs.declared.Trial.{Trial}
-use Rattle.plusplus_trials.specs.declared.Tried.TheVariants.{Best, Stopped}
 use Rattle.draws.specs.Stops.{draw_of}
 use Rattle.draws.specs.Draws.{Drawn, drawn, refused, takes, one_draw, shares}
 use Rattle.plusplus_pick.specs.Potentials.{running, limit, trial}
@@ -34,12 +33,12 @@ limit_some total m z = limit_cond (lt zero64 total) m z
 
 module _ (q : ℕ → ℕ → Float) (w : ℕ → Float) (total : Float) (m : ℕ) where
   -- the first draw, at place i of a list, by its answer
-  pub best_value : (more : ℕ) (draws : List ℕ) (i : ℕ) {d : ℕ} → i < length draws → draw_of (one_draw (limit total m) i (drop i draws)) ≡ draw.Value d
+  pub best_value : (more : ℕ) (draws : List ℕ) (i : ℕ) {d : ℕ} → i < length draws → draw_of (one_draw (limit total m) i (drop i draws)) ≡ Ok d
       → best_trial q w total m more i (drop i draws) ≡ takes (limit total m) (against q w total m) more (trial q w total m d) (i + 1) (drop (i + 1) draws)
   unfolding best_trial
   best_value more draws i l e = rw (draw_value (limit total m) draws i l e).1
 
-  pub best_stopped : (more : ℕ) (draws : List ℕ) (i : ℕ) {s : Stop} → i < length draws → draw_of (one_draw (limit total m) i (drop i draws)) ≡ draw.Stopped s
+  pub best_stopped : (more : ℕ) (draws : List ℕ) (i : ℕ) {s : Stop} → i < length draws → draw_of (one_draw (limit total m) i (drop i draws)) ≡ Err s
       → (best_trial q w total m more i (drop i draws) ≡ refused i) × (s ≡ DrawOutOfRange i)
   unfolding best_trial
   best_stopped more draws i l e = let v = draw_stopped (limit total m) draws i l e in (rw v.1 refl, v.0)
@@ -86,11 +85,11 @@ pub next_behind : (q : ℕ → ℕ → Float) (m t : ℕ) → 0 < m → 0 < t �
 next_behind q m t z some ws at p b l = best_behind q (cells ws) (sum_to (cells ws) m) m z (t - 1) at p b (omega arith)
 
 -- what an answer says of the search that gave it
-pub search_stopped : (D : Drawn Trial) {s : Stop} → tried_of D ≡ Stopped s → (p : ℕ) × (D ≡ refused p) × (s ≡ DrawOutOfRange p)
+pub search_stopped : (D : Drawn Trial) {s : Stop} → tried_of D ≡ Err s → (p : ℕ) × (D ≡ refused p) × (s ≡ DrawOutOfRange p)
 search_stopped (drawn b rest) e = let z : ◌≡◌ {A = ℕ} 0 1 = cc in absurd (omega arith)
 search_stopped (refused r) {s} e = let q : s ≡ DrawOutOfRange r = cc in (r, refl, q)
 
-pub search_best : (P : Trial → List ℕ → Type 0) (Q : ℕ → Type 0) (R : Type 0) (D : Drawn Trial) {b : Trial} → tried_of D ≡ Best b → Ends P Q D
+pub search_best : (P : Trial → List ℕ → Type 0) (Q : ℕ → Type 0) (R : Type 0) (D : Drawn Trial) {b : Trial} → tried_of D ≡ Ok b → Ends P Q D
     → ((rest : List ℕ) → D ≡ drawn b rest → P b rest → R) → R
 search_best P Q R (drawn s rest) {b} e h k = let q : s ≡ b = cc in k rest (ap (λ (x : Trial). drawn x rest) q) (subst (λ (x : Trial). P x rest) q h)
 search_best P Q R (refused p) e h k = let z : ◌≡◌ {A = ℕ} 0 1 = cc in absurd (omega arith)

@@ -12,10 +12,8 @@ fn gather(members: &[usize], scores: &[f64], out: &mut [f64])
     requires { ((j : ℕ) → j < length members.now → numbers members.now j < length scores.now) × (length out.old ≡ length members.now) }
     ensures { out.new ≡ map (cells scores.now) members.now }
 {
-    let n = members.len();
-    for j in 0..n {
-        let i = members[j];
-        out[j] = scores[i];
+    for (j, i) in members.iter().enumerate() {
+        out[j] = scores[*i];
     }
 }
 
@@ -37,8 +35,8 @@ pub fn qualities(order: &[usize], sizes: &[usize], scores: &[f64], out: &mut [f6
 {
     let count = out.len();
     let mut at = 0;
-    for g in 0..count {
-        let end = at + sizes[g];
+    for (g, size) in sizes[..count].iter().enumerate() {
+        let end = at + *size;
         out[g] = group_quality(&order[at..end], scores);
         at = end;
     }
@@ -58,14 +56,7 @@ pub fn weak_count(qs: &[f64]) -> usize
     ensures { result ≡ quality.weak_count qs.now }
 {
     let limit = average(qs);
-    let n = qs.len();
-    let mut count = 0;
-    for g in 0..n {
-        if qs[g] < limit {
-            count += 1;
-        }
-    }
-    count
+    qs.iter().filter(|q| **q < limit).count()
 }
 
 // The plain average of the t-stats of the weak groups, of at most 256 groups.
@@ -74,12 +65,10 @@ pub fn weak_mean(qs: &[f64]) -> f64
     ensures { result ≡ quality.weak_mean qs.now }
 {
     let limit = average(qs);
-    let n = qs.len();
     let mut sum = 0.0;
-    for g in 0..n {
-        let q = qs[g];
-        if q < limit {
-            sum = sum + q;
+    for q in qs {
+        if *q < limit {
+            sum = sum + *q;
         }
     }
     let count = weak_count(qs);

@@ -39,19 +39,19 @@ pub fn pick(
     ensures out_sizes_after { out_sizes.new ≡ sizes_of (length out.old) (picked (on_side qs.now limit below) (cut (length qs.now) sizes.now order.now)) }
 {
     out_sizes.fill(0);
-    let count = qs.len();
     let mut at = 0;
     let mut items = 0;
     let mut groups = 0;
-    for g in 0..count {
+    for (g, q) in qs.iter().enumerate() {
+        let size = sizes[g];
         let from = at;
-        at = from + sizes[g];
-        if !on_side(qs[g], limit, below) {
+        at = from + size;
+        if !on_side(*q, limit, below) {
             continue;
         }
-        let to = items + sizes[g];
+        let to = items + size;
         out[items..to].copy_from_slice(&order[from..at]);
-        out_sizes[groups] = sizes[g];
+        out_sizes[groups] = size;
         groups += 1;
         items = to;
     }

@@ -1,4 +1,5 @@
 -- `start_round`, in plain lists: from what its calls leave to what it ensures.
+use Rattle.std.specs.Prelude.{Ok, Err}
 use Prim.Native.Nat.{ℕ, zero, suc, ◌+◌, ◌-◌, ◌*◌, ◌^◌, ◌<◌, ◌≤◌}
 use mathlib.Core.Path.{◌≡◌, refl, sym, ◌∙◌, ap, subst}
 use mathlib.Core.Bool.{Bool, true, false, cond}
@@ -27,16 +28,15 @@ use Rattle.plusplus_seeded.specs.declared.Source.{Source}
 use Rattle.plusplus_seeded.specs.Sources.{words_by, Supplies}
 use Rattle.candidates.specs.Steps.{Enough}
 use Rattle.candidates.proofs.Sourced.{repeats_long}
-use Rattle.base.specs.Base.{base_of, based_of, BasedBy, Leaves}
-use Rattle.base.specs.declared.Based.TheVariants as based
+use Rattle.base.proofs.Laws.{based_parts}
+use Rattle.base.specs.Base.{based, base_of, based_of, BasedBy, Leaves}
 use Rattle.improve_merge.specs.Merging.{weak_items}
 use Rattle.improve_merge.specs.Steps.{state_of}
-use Rattle.round.specs.declared.RoundStart.TheVariants as roundStart
 use Rattle.row_numbers.specs.Rows.{rows_of}
 use Rattle.round.specs.Round.{Opening, started, unstarted, of_best, opening_of, need_of}
 use Rattle.round_lists.specs.Steps.{Stored, WeakFound, Room}
 use Rattle.round.specs.Made.{own_made, own_given, own_moved}
-use Rattle.round.specs.Steps.{Stood, MayStart, RoundStarted}
+use Rattle.round.specs.Steps.{round_start, Stood, MayStart, RoundStarted}
 use Rattle.round.proofs.Runs.{OpeningTook, opening_took}
 use Rattle.round.proofs.Standing.{stands_sized, stands_state}
 
@@ -175,18 +175,18 @@ module _ (book : List Float) (n m repeats : ℕ) (draws : List ℕ) (src : Sourc
     pub area_kept : length wf₁ ≡ length wf
     area_kept = put_length (left * n) k wf area fits len
 
-    of_stopped : (E : Drawn Best) (s : Stop) (next : Source) → O ≡ of_best m E → based.Stopped s ≡ based_of (length rows) next E
-        → RoundStarted O n m left moved (roundStart.Stopped s) wi wi wf wf₁
+    of_stopped : (E : Drawn Best) (s : Stop) (next : Source) → O ≡ of_best m E → Err s ≡ based_of (length rows) next E
+        → RoundStarted O n m left moved (Err s) wi wi wf wf₁
     of_stopped (drawn nothing rest) s next e a =
         let z : s ≡ ClusteringFailed = cc in
-        rw e (record { answer_is = ap roundStart.Stopped z; starts = tt; behind = refl; beyond = area_beyond })
+        rw e (record { answer_is = ap Err z; starts = tt; behind = refl; beyond = area_beyond })
     of_stopped (drawn (found c) rest) s next e a = let z : ◌≡◌ {A = ℕ} 0 1 = cc in absurd (omega arith)
     of_stopped (refused p) s next e a =
         let z : s ≡ DrawOutOfRange p = cc in
-        rw e (record { answer_is = ap roundStart.Stopped z; starts = tt; behind = refl; beyond = area_beyond })
+        rw e (record { answer_is = ap Err z; starts = tt; behind = refl; beyond = area_beyond })
 
-    pub stopped_law : (s : Stop) {next : Source} {o z : List ℕ} {q : List Float} → BasedBy (length rows) D next (based.Stopped s) o z q
-        → RoundStarted O n m left moved (roundStart.Stopped s) wi wi wf wf₁
+    pub stopped_law : (s : Stop) {next : Source} {o z : List ℕ} {q : List Float} → BasedBy (length rows) D next (Err s) o z q
+        → RoundStarted O n m left moved (Err s) wi wi wf wf₁
     stopped_law s {next} h = of_stopped D s next opened h.answer_is
 
   -- what is known of a base of g groups; `next` is the source behind its draws
@@ -202,18 +202,17 @@ module _ (book : List Float) (n m repeats : ℕ) (draws : List ℕ) (src : Sourc
     pub scored : q ≡ base.scores
 
   of_done : (E : Drawn Best) (g : ℕ) (next : Source) (o z : List ℕ) (q : List Float) → O ≡ of_best m E → OpeningTook (need_of repeats m) own m (of_best m E)
-      → based.Done g next ≡ based_of m moved E → Leaves m E o z q → Opened g next o z q
+      → based g next ≡ based_of m moved E → Leaves m E o z q → Opened g next o z q
   of_done (drawn nothing rest) g next o z q e t a l = let y : ◌≡◌ {A = ℕ} 0 1 = cc in absurd (omega arith)
   of_done (drawn (found c) rest) g next o z q e t a l =
-      let eg : g ≡ length (base_of m c).groups = cc in
-      let en : next ≡ moved = cc in
-      record { base = base_of m c; rest = rest; starts_as = e; parts = t.0; count = eg; next_is = en; ordered = l.ordered; sized = l.sized; scored = l.scored }
+      let p = based_parts g (length (base_of m c).groups) next moved a in
+      record { base = base_of m c; rest = rest; starts_as = e; parts = t.0; count = p.0; next_is = p.1; ordered = l.ordered; sized = l.sized; scored = l.scored }
   of_done (refused p) g next o z q e t a l = let y : ◌≡◌ {A = ℕ} 0 1 = cc in absurd (omega arith)
 
-  pub opened_law : (g : ℕ) (next : Source) {o z : List ℕ} {q : List Float} → BasedBy (length rows) D moved (based.Done g next) o z q → Opened g next o z q
+  pub opened_law : (g : ℕ) (next : Source) {o z : List ℕ} {q : List Float} → BasedBy (length rows) D moved (based g next) o z q → Opened g next o z q
   opened_law g next {o} {z} {q} h =
-      let b : BasedBy m D moved (based.Done g next) o z q =
-      subst (λ (k : ℕ). BasedBy k D moved (based.Done g next) o z q) rows_len h in
+      let b : BasedBy m D moved (based g next) o z q =
+      subst (λ (k : ℕ). BasedBy k D moved (based g next) o z q) rows_len h in
       of_done D g next o z q opened (subst (OpeningTook (need_of repeats m) own m) opened took) b.answer_is b.leaves
 
   module _ (g : ℕ) (next : Source) (o z : List ℕ) (q : List Float) (B : Opened g next o z q) (lo : length o ≡ m) (lq : length q ≡ m) where
@@ -225,7 +224,7 @@ module _ (book : List Float) (n m repeats : ℕ) (draws : List ℕ) (src : Sourc
 
     -- the base has been stored, and its weak items marked
     pub started_law : (wf₁ : List Float) (wi₁ : List ℕ) (wf₂ : List Float) (gr it : ℕ) (wi₂ : List ℕ) → drop limit wf₁ ≡ drop limit wf → Stored n o z q wi wi₁ wf₁ wf₂
-        → WeakFound n (length q) (state_of g z o q) gr it wi₁ wi₂ → RoundStarted O n m left moved (roundStart.Base g gr it next) wi wi₂ wf wf₂
+        → WeakFound n (length q) (state_of g z o q) gr it wi₁ wi₂ → RoundStarted O n m left moved (round_start g gr it next) wi wi₂ wf wf₂
     started_law wf₁ wi₁ wf₂ gr it wi₂ area S M' =
         let M : WeakFound n m B.base gr it wi₁ wi₂ = rw (← state_is, ← lq) M' in
         let rows-first : take m wi₁ ≡ take m wi = front_less n m wi₁ wi P.reads.items S.rows-kept in

@@ -36,10 +36,13 @@ pub record BaseAt (n m : ℕ) (s : State) (wi : List ℕ) (wf : List Float) : Ty
   pub sizes_at : part (2 * n) m wi ≡ sizes_of m s.groups
   pub scores_at : take m wf ≡ s.scores
 
+-- the answer of a start that nothing stopped
+abbrev pub round_start : ℕ → ℕ → ℕ → Source → Result RoundStart Stop
+round_start groups weak items source = Ok (record { groups = groups; weak = weak; items = items; source = source })
+
 -- the answer of a start: how many groups the base has, how many are weak, how many items those have, and the source behind the draws
 abbrev pub round_start_of : Source → Opening → Result RoundStart Stop
-round_start_of next (started s rest) =
-    Ok (record { groups = length s.groups; weak = weak_count (qualities_of s.scores s.groups); items = length (weak_items s); source = next })
+round_start_of next (started s rest) = round_start (length s.groups) (weak_count (qualities_of s.scores s.groups)) (length (weak_items s)) next
 round_start_of next (unstarted s ms) = Err s
 
 -- what it leaves: the rows, the base, and the rows of the weak items at the front of the inner round's numbers

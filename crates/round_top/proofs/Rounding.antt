@@ -1,4 +1,5 @@
 -- `cluster_kmeans_top`, in plain lists: from what its calls leave to what it ensures.
+use Rattle.std.specs.Prelude.{Result, Ok, Err}
 use Prim.Native.Nat.{ℕ, zero, suc, ◌+◌, ◌-◌, ◌*◌, ◌<◌, ◌≤◌}
 use mathlib.Core.Path.{◌≡◌, refl, sym, ◌∙◌, ap, subst}
 use mathlib.Core.List.{List, [], ◌∷◌, ◌++◌, map}
@@ -19,20 +20,29 @@ use Rattle.improve.specs.Improve.{better_of}
 use Rattle.improve_merge.specs.Steps.{state_of, PartitionLists, Improvable}
 use Rattle.improve_merge.proofs.Merged.{weak_few, weak_below, weak_many}
 use Rattle.round_top.specs.declared.Top.{Top}
-use Rattle.round_top.specs.declared.Top.TheVariants.{Done, Stopped}
 use Rattle.round.specs.declared.RoundStart.{RoundStart}
-use Rattle.round.specs.declared.RoundStart.TheVariants as roundStart
 use Rattle.row_numbers.specs.Rows.{rows_of}
 use Rattle.round.specs.Round.{Run, done, ended, Opening, started, unstarted, opening_of, round_of, need_of, after_inner}
 use Rattle.plusplus_seeded.specs.declared.Source.{Source}
 use Rattle.plusplus_seeded.specs.Sources.{given}
 use Rattle.round.specs.Made.{own_given, own_moved, round_given}
-use Rattle.round.specs.Steps.{Stood, RoundStarted, Starts, BaseAt, round_start_of}
+use Rattle.round.specs.Steps.{round_start, Stood, RoundStarted, Starts, BaseAt, round_start_of}
 use Rattle.round_end.specs.Steps.{InnerEnded, RoundEnded}
-use Rattle.round_top.specs.Steps.{Ready, RoundLeaves, top_of, order_after, sizes_after, scores_after}
+use Rattle.round_top.specs.Steps.{top, Ready, RoundLeaves, top_of, order_after, sizes_after, scores_after}
 use Rattle.round.proofs.Runs.{weak_in, OpeningTook, opening_took, Whole, whole, round_none, round_refused, round_kept, round_again}
 use Rattle.round.proofs.Sourced.{later_made, source_started, source_unstarted, later_again, stood_behind}
 use Rattle.round.proofs.Standing.{stands_state, stands_cut, stands_parted, stands_plain}
+
+-- what two equal answers have in common
+start_parts : (g h k l v w : ℕ) (n m : Source) → round_start g k v n ≡ round_start h l w m → (g ≡ h) × (k ≡ l) × (v ≡ w) × (n ≡ m)
+start_parts g h k l v w n m e =
+    let r : ◌≡◌ {A = RoundStart} (record { groups = g; weak = k; items = v; source = n }) (record { groups = h; weak = l; items = w; source = m }) = cc in
+    (ap (λ (x : RoundStart). x.groups) r, ap (λ (x : RoundStart). x.weak) r, ap (λ (x : RoundStart). x.items) r, ap (λ (x : RoundStart). x.source) r)
+
+pub top_parts : (g h r s : ℕ) → top g r ≡ top h s → (g ≡ h) × (r ≡ s)
+top_parts g h r s e =
+    let t : ◌≡◌ {A = Top} (record { groups = g; read = r }) (record { groups = h; read = s }) = cc in
+    (ap (λ (x : Top). x.groups) t, ap (λ (x : Top). x.read) t)
 
 pub level_pos : (left : ℕ) → (left ≡ 0 → ⊥) → 1 ≤ left
 level_pos zero h = absurd (h refl)
@@ -79,7 +89,7 @@ module _ (book : List Float) (n repeats : ℕ) (draws : List ℕ) (src : Source)
   abbrev last_double : ℕ
   last_double = left * n + 5 * (n * n)
 
-  pub none_law : left ≡ 0 → RoundLeaves run n left (Stopped Rounds) order order sizes sizes scores scores wi wi wf wf
+  pub none_law : left ≡ 0 → RoundLeaves run n left (Err Rounds) order order sizes sizes scores scores wi wi wf wf
   none_law e =
       rw (round_none book n repeats left rows src.at (round_given src draws book n repeats left rows) e)
       (record { answer_is = refl; ordered = refl; sized = refl; scored = refl; behind = refl; beyond = refl })
@@ -109,8 +119,8 @@ module _ (book : List Float) (n repeats : ℕ) (draws : List ℕ) (src : Source)
       behind_number : drop last_number wi₁ ≡ drop last_number wi
       behind_number = drop_behind (4 * n) last_number wi₁ wi (omega (arith, size)) B.behind
 
-      of_refused : (o : Opening) (s : Stop) → O ≡ o → roundStart.Stopped s ≡ round_start_of moved o
-          → RoundLeaves run n left (Stopped s) order order sizes sizes scores scores wi wi₁ wf wf₁
+      of_refused : (o : Opening) (s : Stop) → O ≡ o → Err s ≡ round_start_of moved o
+          → RoundLeaves run n left (Err s) order order sizes sizes scores scores wi wi₁ wf wf₁
       of_refused (started base rest) s e a = let z : ◌≡◌ {A = ℕ} 0 1 = cc in absurd (omega arith)
       of_refused (unstarted q ms) s e a =
           let z : q ≡ s = cc in
@@ -120,7 +130,7 @@ module _ (book : List Float) (n repeats : ℕ) (draws : List ℕ) (src : Source)
           ∙ ap (λ (x : Stop). ended x ms) z in
           rw r (record { answer_is = refl; ordered = refl; sized = refl; scored = refl; behind = behind_number; beyond = B.beyond })
 
-      pub refused_law : (s : Stop) → a₁ ≡ roundStart.Stopped s → RoundLeaves run n left (Stopped s) order order sizes sizes scores scores wi wi₁ wf wf₁
+      pub refused_law : (s : Stop) → a₁ ≡ Err s → RoundLeaves run n left (Err s) order order sizes sizes scores scores wi wi₁ wf wf₁
       refused_law s e = of_refused O s refl (sym e ∙ B.answer_is)
 
       -- what is known of a round that has started: its base of `groups` groups, `weak` of them weak, with w items; a is the source behind its draws
@@ -138,14 +148,15 @@ module _ (book : List Float) (n repeats : ℕ) (draws : List ℕ) (src : Source)
         pub base_at : BaseAt n m base wi₁ wf₁
         pub rows_at : part (3 * n) w wi₁ ≡ rows_of rows (weak_items base)
 
-      of_started : (o : Opening) (groups weak w : ℕ) (a : Source) → O ≡ o → roundStart.Base groups weak w a ≡ round_start_of moved o
+      of_started : (o : Opening) (groups weak w : ℕ) (a : Source) → O ≡ o → round_start groups weak w a ≡ round_start_of moved o
           → OpeningTook (need_of repeats m) (own_given src draws book n repeats rows) m o → Starts o n m rows wi₁ wf₁ → Started groups weak w a
       of_started (unstarted q ms) groups weak w a e b t s = let z : ◌≡◌ {A = ℕ} 0 1 = cc in absurd (omega arith)
       of_started (started base rest) groups weak w a e b t s =
-          let eg : groups ≡ length base.groups = cc in
-          let ek : weak ≡ weak_in base = cc in
-          let ew : w ≡ length (weak_items base) = cc in
-          let ea : a ≡ moved = cc in
+          let p = start_parts groups (length base.groups) weak (weak_in base) w (length (weak_items base)) a moved b in
+          let eg : groups ≡ length base.groups = p.0 in
+          let ek : weak ≡ weak_in base = p.1 in
+          let ew : w ≡ length (weak_items base) = p.2 in
+          let ea : a ≡ moved = p.3 in
           record {
             base = base;
             rest = rest;
@@ -163,7 +174,7 @@ module _ (book : List Float) (n repeats : ℕ) (draws : List ℕ) (src : Source)
             rows_at = ap (λ (x : ℕ). part (3 * n) x wi₁) ew ∙ s.2;
           }
 
-      pub started_law : (groups weak w : ℕ) (a : Source) → a₁ ≡ roundStart.Base groups weak w a → Started groups weak w a
+      pub started_law : (groups weak w : ℕ) (a : Source) → a₁ ≡ round_start groups weak w a → Started groups weak w a
       started_law groups weak w a e =
           let ds = own_given src draws book n repeats rows in
           of_started O groups weak w a refl (sym e ∙ B.answer_is)
@@ -178,7 +189,7 @@ module _ (book : List Float) (n repeats : ℕ) (draws : List ℕ) (src : Source)
         opens = source_started book n repeats (left - 1) rows two_rows src draws S.base S.rest S.opened
 
         pub kept_law : (order' sizes' : List ℕ) (scores' : List Float) → weak ≤ 2 → order' ≡ part n m wi₁ → sizes' ≡ part (2 * n) m wi₁ → scores' ≡ take m wf₁
-            → RoundLeaves run n left (Done groups a.at) order order' sizes sizes' scores scores' wi wi₁ wf wf₁
+            → RoundLeaves run n left (top groups a.at) order order' sizes sizes' scores scores' wi wi₁ wf wf₁
         kept_law order' sizes' scores' h eo ez es =
             let b = S.base in
             let less : weak_in S.base ≤ 2 = omega (arith, h, S.weak_is) in
@@ -187,7 +198,7 @@ module _ (book : List Float) (n repeats : ℕ) (draws : List ℕ) (src : Source)
             ∙ ap (λ (x : ℕ). done S.base (x ∷ []) moved.at later) rows_len
             ∙ ap (λ (x : Source). done S.base (m ∷ []) x.at later) (sym S.told) in
             rw r (record {
-              answer_is = ap (λ (x : ℕ). Done x a.at) S.count;
+              answer_is = ap (λ (x : ℕ). top x a.at) S.count;
               ordered = eo ∙ S.base_at.order_at;
               sized = ez ∙ S.base_at.sizes_at;
               scored = es ∙ S.base_at.scores_at;
@@ -284,7 +295,7 @@ module _ (book : List Float) (n repeats : ℕ) (draws : List ℕ) (src : Source)
               ∙ ap (λ (x : ℕ). after (round_of book n repeats (left - 1) (take x wi₂) a.at (round_given a draws book n repeats (left - 1) (take x wi₂)))) (sym in_len)
 
           -- the inner round has come back
-          module _ (b : Top) (lo lz : List ℕ) (ls : List Float) (wi₃ : List ℕ) (wf₃ : List Float)
+          module _ (b : Result Top Stop) (lo lz : List ℕ) (ls : List Float) (wi₃ : List ℕ) (wf₃ : List Float)
               (I : RoundLeaves inner n (left - 1) b (take w order) lo (take w sizes) lz (take w scores) ls wi₂ wi₃ wf₂ wf₃)
               (len-order : length lo ≡ length (take w order)) (len-sizes : length lz ≡ length (take w sizes)) (len-scores : length ls ≡ length (take w scores))
               (len-numbers : length wi₃ ≡ length wi₂) (len-doubles : length wf₃ ≡ length wf₂) where
@@ -315,9 +326,9 @@ module _ (book : List Float) (n repeats : ℕ) (draws : List ℕ) (src : Source)
                 ap (λ (x : ℕ). drop x wf₄) (sym e) ∙ tail_behind n wf₁ room_doubles wf₃ len-doubles ((left - 1) * n + 5 * (n * n)) I.beyond
                 ∙ ap (λ (x : ℕ). drop x wf₁) e ∙ B.beyond
 
-            of_stopped : (r : Run) (s : Stop) → inner ≡ r → b ≡ Stopped s → b ≡ top_of r → lo ≡ order_after r (take w order)
+            of_stopped : (r : Run) (s : Stop) → inner ≡ r → b ≡ Err s → b ≡ top_of r → lo ≡ order_after r (take w order)
                 → lz ≡ sizes_after (length (take w order)) r (take w sizes) → ls ≡ scores_after r (take w scores)
-                → RoundLeaves run n left (Stopped s) order order₂ sizes sizes₂ scores scores₂ wi wi₄ wf wf₄
+                → RoundLeaves run n left (Err s) order order₂ sizes sizes₂ scores scores₂ wi wi₄ wf wf₄
             of_stopped (done h ms last rest) s e eb ea eo ez es = let z : ◌≡◌ {A = ℕ} 0 1 = cc in absurd (omega arith)
             of_stopped (ended q ms) s e eb ea eo ez es =
                 let z : q ≡ s = cc in
@@ -331,7 +342,7 @@ module _ (book : List Float) (n repeats : ℕ) (draws : List ℕ) (src : Source)
                   beyond = back_double;
                 })
 
-            pub stopped_law : (s : Stop) → b ≡ Stopped s → RoundLeaves run n left (Stopped s) order order₂ sizes sizes₂ scores scores₂ wi wi₄ wf wf₄
+            pub stopped_law : (s : Stop) → b ≡ Err s → RoundLeaves run n left (Err s) order order₂ sizes sizes₂ scores scores₂ wi wi₄ wf wf₄
             stopped_law s eb = of_stopped inner s refl eb I.answer_is I.ordered I.sized I.scored
 
             -- the base stands where it stood
@@ -368,12 +379,13 @@ module _ (book : List Float) (n repeats : ℕ) (draws : List ℕ) (src : Source)
               pub inside : PartitionLists w g (take w order₂) (take w sizes₂)
               pub groups_are : cut g (take w sizes₂) (take w order₂) ≡ state.groups
 
-            of_done : (r : Run) (g last : ℕ) → inner ≡ r → Whole w r → b ≡ Done g last → b ≡ top_of r → lo ≡ order_after r (take w order)
+            of_done : (r : Run) (g last : ℕ) → inner ≡ r → Whole w r → b ≡ top g last → b ≡ top_of r → lo ≡ order_after r (take w order)
                 → lz ≡ sizes_after (length (take w order)) r (take w sizes) → Inner g last
             of_done (ended q ms) g last e p eb ea eo ez = let z : ◌≡◌ {A = ℕ} 0 1 = cc in absurd (omega arith)
             of_done (done h ms q rest) g last e p eb ea eo ez =
-                let eg : g ≡ length h.groups = cc in
-                let el : q ≡ last = cc in
+                let parts = top_parts g (length h.groups) last q (sym eb ∙ ea) in
+                let eg : g ≡ length h.groups = parts.0 in
+                let el : q ≡ last = sym parts.1 in
                 let small : w ≤ 256 = omega (arith, w_few, few) in
                 let fo : take w order₂ ≡ joined h.groups = take_at lo (drop w order) w (len-order ∙ in_len) ∙ eo in
                 let fz : take w sizes₂ ≡ sizes_of w h.groups =
@@ -387,7 +399,7 @@ module _ (book : List Float) (n repeats : ℕ) (draws : List ℕ) (src : Source)
                   groups_are = stands_cut w h small p.0 eg fo fz;
                 }
 
-            pub inner_law : (g last : ℕ) → b ≡ Done g last → Inner g last
+            pub inner_law : (g last : ℕ) → b ≡ top g last → Inner g last
             inner_law g last eb =
                 let two : 2 ≤ length inner_rows = omega (arith, inner_rows_len, w_many) in
                 of_done inner g last refl (subst (λ (x : ℕ). Whole x inner) inner_rows_len (whole book n repeats (left - 1) inner_rows a.at (round_given a draws book n repeats (left - 1) inner_rows) two)) eb I.answer_is I.ordered I.sized
@@ -446,11 +458,11 @@ module _ (book : List Float) (n repeats : ℕ) (draws : List ℕ) (src : Source)
                   ∙ ap (λ (x : List (List ℕ)). better_of (dist_at book n rows) m S.base x) N.groups_are
 
               pub done_law : (r : ℕ) (order' sizes' : List ℕ) (scores' wf₅ : List Float) → RoundEnded better n left r (length order₂) order' sizes' scores' wf₄ wf₅
-                  → RoundLeaves run n left (Done r last) order order' sizes sizes' scores scores' wi wi₄ wf wf₅
+                  → RoundLeaves run n left (top r last) order order' sizes sizes' scores scores' wi wi₄ wf wf₅
               done_law r order' sizes' scores' wf₅ T =
                   let e : run ≡ done (better_of (dist_at book n rows) m S.base N.state.groups) (m ∷ N.ms) last N.left_over = run_is ∙ ap after N.ended_as in
                   rw e (record {
-                    answer_is = ap (λ (x : ℕ). Done x last) (T.groups_are ∙ ap (λ (s : State). length s.groups) better_is);
+                    answer_is = ap (λ (x : ℕ). top x last) (T.groups_are ∙ ap (λ (s : State). length s.groups) better_is);
                     ordered = T.ordered ∙ ap (λ (s : State). joined s.groups) better_is;
                     sized = T.sized ∙ ap (λ (x : ℕ). sizes_of x better.groups) len₂ ∙ ap (λ (s : State). sizes_of m s.groups) better_is;
                     scored = T.scored ∙ ap (λ (s : State). s.scores) better_is;

@@ -27,8 +27,7 @@ pub fn translate(rows: &[usize], locals: &[usize], out: &mut [usize])
     requires { ((i : ℕ) → i < length locals.now → numbers locals.now i < length rows.now) × (length out.old ≡ length locals.now) }
     ensures { out.new ≡ rows_of rows.now locals.now }
 {
-    let n = locals.len();
-    for i in 0..n {
-        out[i] = mapped(rows, LocalRow(locals[i])).0;
+    for (i, local) in locals.iter().enumerate() {
+        out[i] = mapped(rows, LocalRow(*local)).0;
     }
 }

@@ -102,14 +102,8 @@ pub fn same_outputs(
     let order_at = c.expected + 4;
     let sizes_at = order_at + c.order;
     let scores_at = sizes_at + c.sizes;
-    if !test_compared::same_numbers(text, order_at, order) {
-        return false;
-    }
-    if !test_compared::same_numbers(text, sizes_at, sizes) {
-        return false;
-    }
-    if !test_compared::same_doubles(text, scores_at, scores) {
-        return false;
-    }
-    test_compared::same_doubles(text, scores_at + c.scores, ordered)
+    test_compared::same_numbers(text, order_at, order)
+        && test_compared::same_numbers(text, sizes_at, sizes)
+        && test_compared::same_doubles(text, scores_at, scores)
+        && test_compared::same_doubles(text, scores_at + c.scores, ordered)
 }

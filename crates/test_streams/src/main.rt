@@ -5,16 +5,12 @@
 ghost use Rattle.std.specs.Prelude.{◌≤◌, ◌<◌, ◌^◌, ◌+◌, ◌*◌, ◌≡◌, length};
 ghost use Rattle.rng_std.specs.States.{Holds};
 
-fn wide(x: u32) -> u64 {
-    x as u64
-}
-
 // The 16 words from place `at` on, in hex, on one line.
 fn print_words(words: &[u32], at: usize)
     requires { (at + 16 ≤ length words.now) × (length words.now ≤ 64) }
 {
-    for i in 0..16 {
-        io::print_hex(1, wide(words[at + i]), 8);
+    for word in &words[at..at + 16] {
+        io::print_hex(1, u64::from(*word), 8);
         io::write_all(1, b" ");
     }
     io::write_all(1, b"\n");

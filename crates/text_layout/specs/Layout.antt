@@ -1,16 +1,16 @@
 -- The layout of a request: three lines of fields with single spaces between them, and nothing behind the third. Definitions only.
-use Rattle.std.specs.Prelude.{ℕ, zero, suc, ◌+◌, ◌-◌, ◌*◌, ◌^◌, Bool, true, false, cond, ◌&&◌, List, leb, eqb, length}
+use Rattle.std.specs.Prelude.{ℕ, zero, suc, ◌+◌, ◌-◌, ◌*◌, ◌^◌, Bool, true, false, cond, ◌&&◌, List, leb, eqb, length, Option, Some, None, option_and_then}
 use Rattle.lists.specs.Sums.{all_to}
 use Rattle.text_digits.specs.Digits.{byte_at, run_of, spelled, space, newline, stop_of}
 use Rattle.text_layout.specs.declared.Form.{Form}
 use Rattle.text_layout.specs.declared.Small.{Small}
-use Rattle.text_layout.specs.declared.Small.TheVariants.{Number, NoNumber}
-use Rattle.text_layout.specs.declared.Line.{Line}
-use Rattle.text_layout.specs.declared.Line.TheVariants.{Ends, NoLine}
 use Rattle.text_layout.specs.declared.Head.{Head}
-use Rattle.text_layout.specs.declared.Head.TheVariants.{Sizes, NoSizes}
 use Rattle.text_layout.specs.declared.Layout.{Layout}
-use Rattle.text_layout.specs.declared.Layout.TheVariants.{Found, NotFound}
+
+-- a step that may fail, and the steps behind it
+infixl 10 ◌>>=◌
+abbrev pub ◌>>=◌ : {A B : Type 0} → Option A → (A → Option B) → Option B
+o >>= f = option_and_then f o
 
 -- ---- the first line
 
@@ -18,26 +18,29 @@ use Rattle.text_layout.specs.declared.Layout.TheVariants.{Found, NotFound}
 unfoldable pub plain : ℕ → ℕ → Bool
 plain first k = cond (eqb k 0) false (cond (eqb first 48) (eqb k 1) true)
 
+abbrev pub number : ℕ → ℕ → Option Small
+number v e = Some (record { value = v; end = e })
+
 -- a decimal number at place p, at most `bound`, with no zero in front, and right behind it the byte `stop`:
 -- the number and the place behind that byte
-unfoldable pub small_at : List ℕ → ℕ → ℕ → ℕ → Small
+unfoldable pub small_at : List ℕ → ℕ → ℕ → ℕ → Option Small
 small_at s p bound stop =
     cond (plain (byte_at s p) (run_of 10 s p 19))
     (cond (leb (spelled 10 s p (run_of 10 s p 19)) bound)
-    (cond (eqb (byte_at s (p + run_of 10 s p 19)) stop) (Number (spelled 10 s p (run_of 10 s p 19)) (p + run_of 10 s p 19 + 1)) NoNumber)
-    NoNumber)
-    NoNumber
+    (cond (eqb (byte_at s (p + run_of 10 s p 19)) stop) (number (spelled 10 s p (run_of 10 s p 19)) (p + run_of 10 s p 19 + 1)) None)
+    None)
+    None
 
-abbrev pub then_small : Small → (ℕ → ℕ → Head) → Head
-then_small (Number v p) f = f v p
-then_small NoNumber f = NoSizes
+abbrev pub sizes : ℕ → ℕ → ℕ → ℕ → Option Head
+sizes n r d e = Some (record { names = n; repeats = r; draws = d; end = e })
 
 -- names, repeats and count of draws, and the place behind the line
-unfoldable pub head_of : List ℕ → Head
-head_of s =
-    then_small (small_at s 0 12 space) (λ n p.
-    then_small (small_at s p (2 ^ 32 - 1) space) (λ r q.
-    then_small (small_at s q 1024 newline) (λ d e. Sizes n r d e)))
+unfoldable pub head_of : List ℕ → Option Head
+head_of s = do
+  n ← small_at s 0 12 space
+  r ← small_at s n.end (2 ^ 32 - 1) space
+  d ← small_at s r.end 1024 newline
+  sizes n.value r.value d.value d.end
 
 -- ---- the two lists
 
@@ -67,30 +70,28 @@ abbrev pub value_of : Form → List ℕ → ℕ → ℕ → ℕ
 value_of f s p t = spelled f.base s (start_of f s p t) (digits_at f s (start_of f s p t))
 
 -- an empty line at p: the place behind it
-abbrev pub empty_at : List ℕ → ℕ → Line
-empty_at s p = cond (eqb (byte_at s p) newline) (Ends (p + 1)) NoLine
+abbrev pub empty_at : List ℕ → ℕ → Option ℕ
+empty_at s p = cond (eqb (byte_at s p) newline) (Some (p + 1)) None
 
 -- a line of n fields at p: the place behind it. An empty list is an empty line
-unfoldable pub line_at : Form → List ℕ → ℕ → ℕ → Line
+unfoldable pub line_at : Form → List ℕ → ℕ → ℕ → Option ℕ
 line_at f s p n =
-    cond (eqb n 0) (empty_at s p) (cond (all_to (field_ok f s p n) n) (Ends (start_of f s p n)) NoLine)
+    cond (eqb n 0) (empty_at s p) (cond (all_to (field_ok f s p n) n) (Some (start_of f s p n)) None)
 
 -- ---- the three lines
 
-abbrev pub then_head : Head → (ℕ → ℕ → ℕ → ℕ → Layout) → Layout
-then_head (Sizes n r d p) f = f n r d p
-then_head NoSizes f = NotFound
-
-abbrev pub then_line : Line → (ℕ → Layout) → Layout
-then_line (Ends p) f = f p
-then_line NoLine f = NotFound
+abbrev pub found : ℕ → ℕ → ℕ → ℕ → ℕ → Option Layout
+found n r d p q = Some (record { names = n; repeats = r; draws = d; cells_at = p; draws_at = q })
 
 -- the two lists from p on, with nothing behind them
-unfoldable pub lists_of : List ℕ → ℕ → ℕ → ℕ → ℕ → Layout
-lists_of s n r d p =
-    then_line (line_at cell_form s p (n * n)) (λ q.
-    then_line (line_at draw_form s q d) (λ e. cond (eqb e (length s)) (Found n r d p q) NotFound))
+unfoldable pub lists_of : List ℕ → ℕ → ℕ → ℕ → ℕ → Option Layout
+lists_of s n r d p = do
+  q ← line_at cell_form s p (n * n)
+  e ← line_at draw_form s q d
+  cond (eqb e (length s)) (found n r d p q) None
 
 -- the sizes, and the places where the cells and the draws start
-unfoldable pub layout_of : List ℕ → Layout
-layout_of s = then_head (head_of s) (lists_of s)
+unfoldable pub layout_of : List ℕ → Option Layout
+layout_of s = do
+  h ← head_of s
+  lists_of s h.names h.repeats h.draws h.end

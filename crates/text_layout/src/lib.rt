@@ -7,7 +7,7 @@ ghost use Rattle.text_digits.specs.Digits.{run_of, spelled};
 ghost use Rattle.text_layout.specs.Layout.{plain as plain_of, small_at, head_of, cell_form, draw_form, line_at, empty_at, lists_of, layout_of};
 
 // How the fields of a line are written: from least to most digits in a base.
-#[derive(Drop)]
+#[derive(Clone, Copy)]
 pub struct Form {
     pub base: u64,
     pub least: usize,
@@ -15,7 +15,7 @@ pub struct Form {
 }
 
 // A run of digits: its number, how many they are, and the place behind them.
-#[derive(Drop)]
+#[derive(Clone, Copy)]
 pub struct Run {
     pub value: u64,
     pub count: usize,
@@ -23,31 +23,29 @@ pub struct Run {
 }
 
 // A number of the first line, and the place behind the byte that ends it.
-#[derive(Drop)]
-pub enum Small {
-    Number(usize, usize),
-    NoNumber,
+#[derive(Clone, Copy)]
+struct Small {
+    value: usize,
+    end: usize,
 }
 
-// The place behind a line.
-#[derive(Drop)]
-pub enum Line {
-    Ends(usize),
-    NoLine,
-}
-
-// Names, repeats, count of draws, and the place behind the first line.
-#[derive(Drop)]
-pub enum Head {
-    Sizes(usize, usize, usize, usize),
-    NoSizes,
+// What the first line says, and the place behind it.
+#[derive(Clone, Copy)]
+struct Head {
+    names: usize,
+    repeats: usize,
+    draws: usize,
+    end: usize,
 }
 
 // Names, repeats, count of draws, and the places where the cells and the draws start.
-#[derive(Drop)]
-pub enum Layout {
-    Found(usize, usize, usize, usize, usize),
-    NotFound,
+#[derive(Clone, Copy)]
+pub struct Layout {
+    pub names: usize,
+    pub repeats: usize,
+    pub draws: usize,
+    pub cells_at: usize,
+    pub draws_at: usize,
 }
 
 // A cell: 16 digits in base 16.
@@ -99,56 +97,50 @@ pub fn run_at(text: &[u8], at: usize, base: u64, most: usize) -> Run
 }
 
 // Whether digits are at least one, with no zero in front; `first` is the byte of the first one.
+#[tactic(auto, using(std::proofs::lemmas::Bool::Decides::nat_tests), unfolding(crate::specs::Layout::plain))]
 fn plain(first: u8, count: usize) -> bool
     ensures { result ≡ plain_of first count }
 {
-    if count == 0 {
-        return false;
-    }
-    if first == 48 {
-        return count == 1;
-    }
-    true
+    count > 0 && (first != b'0' || count == 1)
 }
 
 // A number of the first line: at most bound, with no zero in front, ended by the byte stop.
-fn small_at(text: &[u8], at: usize, bound: u64, stop: u8) -> Small
+#[tactic(auto, using(std::proofs::lemmas::Bool::Decides::nat_tests), unfolding(crate::specs::Layout::small_at))]
+fn small_at(text: &[u8], at: usize, bound: u64, stop: u8) -> Option<Small>
     requires { 0 < stop }
     ensures { result ≡ small_at text.now at bound stop }
 {
     let run = run_at(text, at, 10, 19);
-    let value = run.value;
-    let end = run.end;
     if !plain(text_digits::byte_at(text, at), run.count) {
-        return Small::NoNumber;
+        return None;
     }
-    if value > bound {
-        return Small::NoNumber;
+    if run.value > bound || text_digits::byte_at(text, run.end) != stop {
+        return None;
     }
-    if text_digits::byte_at(text, end) != stop {
-        return Small::NoNumber;
-    }
-    Small::Number(value as usize, end + 1)
+    Some(Small {
+        value: run.value as usize,
+        end: run.end + 1,
+    })
 }
 
 // The first line.
-fn head_of(text: &[u8]) -> Head
+#[tactic(auto, unfolding(crate::specs::Layout::head_of))]
+fn head_of(text: &[u8]) -> Option<Head>
     ensures { result ≡ head_of text.now }
 {
-    match small_at(text, 0, 12, b' ') {
-        Small::NoNumber => Head::NoSizes,
-        Small::Number(names, p) => match small_at(text, p, 0xffff_ffff, b' ') {
-            Small::NoNumber => Head::NoSizes,
-            Small::Number(repeats, q) => match small_at(text, q, 1024, b'\n') {
-                Small::NoNumber => Head::NoSizes,
-                Small::Number(draws, e) => Head::Sizes(names, repeats, draws, e),
-            },
-        },
-    }
+    let names = small_at(text, 0, 12, b' ')?;
+    let repeats = small_at(text, names.end, 0xffff_ffff, b' ')?;
+    let draws = small_at(text, repeats.end, 1024, b'\n')?;
+    Some(Head {
+        names: names.value,
+        repeats: repeats.value,
+        draws: draws.value,
+        end: draws.end,
+    })
 }
 
-// A line of n fields.
-fn line_at(text: &[u8], form: Form, at: usize, n: usize) -> Line
+// A line of n fields: the place behind it.
+fn line_at(text: &[u8], form: Form, at: usize, n: usize) -> Option<usize>
     requires { (form.base ≤ 16) × (form.base ^ form.most ≤ 2 ^ 64) }
     ensures { result ≡ line_at form text.now at n }
 {
@@ -158,54 +150,52 @@ fn line_at(text: &[u8], form: Form, at: usize, n: usize) -> Line
     let mut q = at;
     for t in 0..n {
         let run = run_at(text, q, form.base, form.most);
-        let end = run.end;
         if run.count < form.least {
-            return Line::NoLine;
+            return None;
         }
-        if text_digits::byte_at(text, end) != text_digits::stop_of(t, n) {
-            return Line::NoLine;
+        if text_digits::byte_at(text, run.end) != text_digits::stop_of(t, n) {
+            return None;
         }
-        q = end + 1;
+        q = run.end + 1;
     }
-    Line::Ends(q)
+    Some(q)
 }
 
 // An empty line.
-fn empty_at(text: &[u8], at: usize) -> Line
+fn empty_at(text: &[u8], at: usize) -> Option<usize>
     ensures { result ≡ empty_at text.now at }
 {
     if text_digits::byte_at(text, at) != b'\n' {
-        return Line::NoLine;
+        return None;
     }
-    Line::Ends(at + 1)
+    Some(at + 1)
 }
 
 // The three lines.
-pub fn layout_of(text: &[u8]) -> Layout
+#[tactic(auto, using(crate::proofs::Found::head_names), unfolding(crate::specs::Layout::layout_of))]
+pub fn layout_of(text: &[u8]) -> Option<Layout>
     ensures { result ≡ layout_of text.now }
 {
-    match head_of(text) {
-        Head::NoSizes => Layout::NotFound,
-        Head::Sizes(n, r, d, p) => lists_of(text, n, r, d, p),
-    }
+    let head = head_of(text)?;
+    lists_of(text, head)
 }
 
 // The two lists, and nothing behind them.
-fn lists_of(text: &[u8], n: usize, r: usize, d: usize, p: usize) -> Layout
-    requires { n ≤ 12 }
-    ensures { result ≡ lists_of text.now n r d p }
+#[tactic(auto, using(std::proofs::lemmas::Bool::Decides::nat_tests), unfolding(crate::specs::Layout::lists_of))]
+fn lists_of(text: &[u8], head: Head) -> Option<Layout>
+    requires { head.names ≤ 12 }
+    ensures { result ≡ lists_of text.now head.names head.repeats head.draws head.end }
 {
-    match line_at(text, cell_form(), p, n * n) {
-        Line::NoLine => Layout::NotFound,
-        Line::Ends(q) => match line_at(text, draw_form(), q, d) {
-            Line::NoLine => Layout::NotFound,
-            Line::Ends(e) => {
-                if e == text.len() {
-                    Layout::Found(n, r, d, p, q)
-                } else {
-                    Layout::NotFound
-                }
-            }
-        },
+    let draws_at = line_at(text, cell_form(), head.end, head.names * head.names)?;
+    let end = line_at(text, draw_form(), draws_at, head.draws)?;
+    if end != text.len() {
+        return None;
     }
+    Some(Layout {
+        names: head.names,
+        repeats: head.repeats,
+        draws: head.draws,
+        cells_at: head.end,
+        draws_at,
+    })
 }

@@ -6,6 +6,7 @@ use mathlib.Core.List.{List, ◌++◌}
 use native.Mathlib.Omega.{arith}
 use native.Mathlib.Decide.{dec_lt}
 use borrow.Author.Tests.{le-ltb, lt-ltb}
+use Rattle.std.specs.Prelude.{None, Option, Some}
 use lib.Dec.{ltb}
 use lib.ListN.{drop, length, take}
 use lib.Ieee.{Float, nan}
@@ -16,12 +17,11 @@ use Rattle.lists.specs.Lists.{listed}
 use Rattle.bits.specs.Bits.{double_of}
 use Rattle.lists.proofs.Listed.{listed_same}
 use Rattle.lists.proofs.Tests.{or-true}
-use Rattle.text_layout.specs.Layout.{cell_form, draw_form, field_ok, layout_of, value_of}
+use Rattle.text_layout.specs.Layout.{cell_form, draw_form, field_ok, found, layout_of, value_of}
 use Rattle.refusals.specs.Table.{refused}
 use Rattle.text_request.specs.Request.{Answer, Requested, kept_lists, read_as, refusing, request_of, sizes_read}
 use Rattle.text_layout.specs.declared.Form.{Form}
 use Rattle.text_layout.specs.declared.Layout.{Layout}
-use Rattle.text_layout.specs.declared.Layout.TheVariants.{NotFound, Found}
 use Rattle.text_layout.proofs.Found.{Within, accepted}
 
 -- ---- what is answered
@@ -52,11 +52,11 @@ module _ (n r d : ℕ) (c w : ℕ → ℕ) (cells : List Float) (draws : List �
   as_filled h l = rw (le-ltb (length cells) (n * n) h, le-ltb (length draws) d l)
 
 module _ (s : List ℕ) (cells : List Float) (draws : List ℕ) where
-  pub fault_gives : layout_of s ≡ NotFound → request_of s cells draws ≡ kept_lists (refused 11) cells draws
+  pub fault_gives : layout_of s ≡ None → request_of s cells draws ≡ kept_lists (refused 11) cells draws
   unfolding request_of
   fault_gives e = rw e
 
-  pub found_gives : (n r d p q : ℕ) → layout_of s ≡ Found n r d p q
+  pub found_gives : (n r d p q : ℕ) → layout_of s ≡ found n r d p q
       → request_of s cells draws ≡ read_as n r d (value_of cell_form s p) (value_of draw_form s q) cells draws
   unfolding request_of
   found_gives n r d p q e = rw e
@@ -65,7 +65,7 @@ module _ (s : List ℕ) (cells : List Float) (draws : List ℕ) where
 pub record ReadFrom (s : List ℕ) (cells : List Float) (draws : List ℕ) (n r d : ℕ) : Type 0 where
   pub p : ℕ
   pub q : ℕ
-  pub found : layout_of s ≡ Found n r d p q
+  pub found : layout_of s ≡ found n r d p q
   pub sizes : Within n r d
   pub cells_fit : n * n ≤ length cells
   pub draws_fit : d ≤ length draws
@@ -90,8 +90,13 @@ module _ (s : List ℕ) (cells : List Float) (draws : List ℕ) (n r d : ℕ) (h
   answers : (x : Requested) → request_of s cells draws ≡ x → x.answer ≡ sizes_read n r d
   answers x e = sym (ap (λ (y : Requested). y.answer) e) ∙ h
 
-  read_cases : (l : Layout) → layout_of s ≡ l → ReadFrom s cells draws n r d
-  read_cases (Found n' r' d' p q) e =
+  read_cases : (l : Option Layout) → layout_of s ≡ l → ReadFrom s cells draws n r d
+  read_cases (Some l) e =
+      let n' = l.names in
+      let r' = l.repeats in
+      let d' = l.draws in
+      let p = l.cells_at in
+      let q = l.draws_at in
       let c = value_of cell_form s p in
       let w = value_of draw_form s q in
       let g = found_gives s cells draws n' r' d' p q e in
@@ -105,7 +110,7 @@ module _ (s : List ℕ) (cells : List Float) (draws : List ℕ) (n r d : ℕ) (h
       let k = g ∙ as_filled n' r' d' c w cells draws i j in
       moved_read s cells draws n' r' d' n r d (answers (filled_of n' r' d' c w cells draws) k)
       (record { p = p; q = q; found = e; sizes = (accepted s n' r' d' p q e).sizes; cells_fit = i; draws_fit = j; gives = k })))
-  read_cases NotFound e = not_read 11 n r d (omega arith) (answers (kept_lists (refused 11) cells draws) (fault_gives s cells draws e))
+  read_cases None e = not_read 11 n r d (omega arith) (answers (kept_lists (refused 11) cells draws) (fault_gives s cells draws e))
 
   pub read_from : ReadFrom s cells draws n r d
   read_from = read_cases (layout_of s) refl
@@ -120,7 +125,7 @@ pub as_lent : {A : Type 0} (f : Form) (s : List ℕ) (l : List A) (p n : ℕ) �
     → all_to (field_ok f s p (length (take n l))) (length (take n l)) ≡ true
 as_lent f s l p n h e = rw (length-take-le n l h) e
 
-pub read_all : (s : List ℕ) (cells : List Float) (draws : List ℕ) (n r d p q : ℕ) → layout_of s ≡ Found n r d p q → n * n ≤ length cells → d ≤ length draws
+pub read_all : (s : List ℕ) (cells : List Float) (draws : List ℕ) (n r d p q : ℕ) → layout_of s ≡ found n r d p q → n * n ≤ length cells → d ≤ length draws
     → (cs : List Float) (ds : List ℕ) → cs ≡ listed (λ t. double_of (value_of cell_form s p t)) (length (take (n * n) cells))
     → ds ≡ listed (value_of draw_form s q) (length (take d draws))
     → record { answer = sizes_read n r d; cells = cs ++ drop (n * n) cells; draws = ds ++ drop d draws } ≡ request_of s cells draws

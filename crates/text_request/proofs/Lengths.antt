@@ -3,6 +3,7 @@ use Prim.Native.Nat.{◌*◌, ◌+◌, ◌<◌, ◌^◌, ◌≤◌, suc, ℕ}
 use mathlib.Core.Path.{◌≡◌, ap, refl}
 use mathlib.Core.List.{List, ◌++◌, ◌∷◌}
 use native.Mathlib.Omega.{arith}
+use Rattle.std.specs.Prelude.{None, Option, Some}
 use lib.ListN.{length, length-append}
 use Rattle.text_digits.specs.Digits.{newline, numeral, space, width_of}
 use Rattle.text_digits.specs.Lines.{line_of}
@@ -13,7 +14,6 @@ use Rattle.text_layout.specs.Layout.{cell_form, draw_form, layout_of, value_of}
 use Rattle.text_request.specs.Written.{request_text}
 use Rattle.text_request.specs.Claim.{Limits}
 use Rattle.text_layout.specs.declared.Layout.{Layout}
-use Rattle.text_layout.specs.declared.Layout.TheVariants.{Found, NotFound}
 use Rattle.text_layout.proofs.Found.{few_cells}
 use Rattle.text_request.proofs.Sound.{sound, sound_limits, width_at}
 
@@ -39,13 +39,13 @@ request_length n r d cell width draw h =
     rw (five (numeral 10 n) (numeral 10 r) (numeral 10 d) (line_of 16 (λ t. 16) cell (n * n)) (line_of 10 width draw d) space space newline)
     (omega (arith, few_cells n names))
 
-long : (s : List ℕ) (l : Layout) → layout_of s ≡ l → 22990 < length s → l ≡ NotFound
-long s (Found n r d p q) e h =
-    let i = ap length (sound s n r d p q e) in
-    let j = request_length n r d (value_of cell_form s p) (width_at draw_form s q) (value_of draw_form s q) (sound_limits s n r d p q e) in
+long : (s : List ℕ) (l : Option Layout) → layout_of s ≡ l → 22990 < length s → l ≡ None
+long s (Some l) e h =
+    let i = ap length (sound s l.names l.repeats l.draws l.cells_at l.draws_at e) in
+    let j = request_length l.names l.repeats l.draws (value_of cell_form s l.cells_at) (width_at draw_form s l.draws_at) (value_of draw_form s l.draws_at) (sound_limits s l.names l.repeats l.draws l.cells_at l.draws_at e) in
     absurd (omega arith)
-long s NotFound e h = refl
+long s None e h = refl
 
 -- so a program that looks at the first 22,991 bytes of a text that is longer answers as for the whole
-pub too_long : (s : List ℕ) → 22990 < length s → layout_of s ≡ NotFound
+pub too_long : (s : List ℕ) → 22990 < length s → layout_of s ≡ None
 too_long s h = long s (layout_of s) refl h

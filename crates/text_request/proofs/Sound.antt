@@ -1,13 +1,15 @@
 -- A text that is read is `request_text` of what was read: nothing else is taken. Assumes nothing.
 use Prim.Native.Nat.{◌*◌, ◌+◌, ◌-◌, ◌<◌, ◌^◌, ◌≤◌, suc, zero, ℕ}
 use mathlib.Core.Path.{◌∙◌, ◌≡◌, ap, refl, sym}
-use mathlib.Core.Bool.{Bool, cond, false, true}
+use mathlib.Core.Bool.{cond, true}
 use mathlib.Core.List.{List, [], ◌++◌, ◌∷◌, append_assoc, append-nil}
 use native.Mathlib.Numerals.{add-one}
 use native.Mathlib.Nat.{add-zero}
 use native.Mathlib.Decide.{ℕ_discrete}
 use native.Mathlib.Omega.{arith}
 use borrow.Author.Tests.{eq-eqb, eqb-true, leb-true, ne_eqb}
+use Rattle.std.specs.Prelude.{None, Some}
+use Rattle.std.proofs.lemmas.Option.{cond_some}
 use lib.Dec.{eqb, leb}
 use lib.ListN.{drop, length}
 use lib.Seq.{drop-cons, drop-length}
@@ -20,16 +22,12 @@ use Rattle.lists.proofs.Tests.{both, impossible}
 use Rattle.text_digits.proofs.Scan.{in_text, run_digits, run_le, spelled_lt, stop_positive}
 use Rattle.text_digits.proofs.Places.{one_place, places_exact, some_digit, spelled_low}
 use Rattle.text_digits.proofs.RoundTrip.{run_off}
-use Rattle.text_layout.specs.Layout.{cell_form, digits_at, draw_form, field_ok, head_of, layout_of, line_at, lists_of, plain, small_at, start_of, value_of}
+use Rattle.text_layout.specs.Layout.{cell_form, digits_at, draw_form, field_ok, found, head_of, layout_of, line_at, number, plain, sizes, small_at, start_of, value_of}
 use Rattle.text_request.specs.Written.{request_text}
 use Rattle.text_layout.specs.declared.Form.{Form}
-use Rattle.text_layout.specs.declared.Small.TheVariants.{Number, NoNumber}
-use Rattle.text_layout.specs.declared.Line.TheVariants.{NoLine, Ends}
-use Rattle.text_layout.specs.declared.Head.TheVariants.{Sizes}
-use Rattle.text_layout.specs.declared.Layout.TheVariants.{NotFound, Found}
 use Rattle.text_request.specs.Claim.{Limits}
 use Rattle.text_layout.proofs.Fields.{field_ends}
-use Rattle.text_layout.proofs.Found.{accepted, clash, head_taken, line_right, line_taken, small_taken}
+use Rattle.text_layout.proofs.Found.{accepted, head_read, line_right, small_read_at, steps}
 
 -- ---- a line
 
@@ -51,27 +49,19 @@ module _ (f : Form) (z : 0 < f.base) (h16 : f.base ≤ 16) (s : List ℕ) (p n :
       ∙ ap (λ (l : List ℕ). F ++ l) (run_off f.base z h16 s q f.most (stop_of t n) e (stop_positive t n))
       ∙ sym (append_assoc F (D ++ (stop_of t n ∷ [])) (drop (q + k + 1) s) ∙ ap (λ (l : List ℕ). F ++ l) (append_assoc D (stop_of t n ∷ []) (drop (q + k + 1) s)))
 
-  empty_cond : (c : Bool) (q : ℕ) → cond c (Ends (p + 1)) NoLine ≡ Ends q → (c ≡ true) × (p + 1 ≡ q)
-  empty_cond true q e = (refl, cc)
-  empty_cond false q e = let y : ◌≡◌ {A = ℕ} 0 1 = cc in clash y
-
-  some_cond : (c : Bool) (y q : ℕ) → cond c (Ends y) NoLine ≡ Ends q → y ≡ q
-  some_cond true y q e = cc
-  some_cond false y q e = let w : ◌≡◌ {A = ℕ} 0 1 = cc in clash w
-
-  pub line_off : (q : ℕ) → line_at f s p n ≡ Ends q → drop p s ≡ line_of f.base (width_at f s p) (value_of f s p) n ++ drop q s
+  pub line_off : (q : ℕ) → line_at f s p n ≡ Some q → drop p s ≡ line_of f.base (width_at f s p) (value_of f s p) n ++ drop q s
   unfolding line_of line_at
   line_off q e =
       by_cases (ℕ_discrete n 0)
       (λ y.
-      let e' : cond (eqb (byte_at s p) newline) (Ends (p + 1)) NoLine ≡ Ends q = rw (eq-eqb n 0 y) at e in
-      let h = empty_cond (eqb (byte_at s p) newline) q e' in
+      let e' : cond (eqb (byte_at s p) newline) (Some (p + 1)) None ≡ Some q = rw (eq-eqb n 0 y) at e in
+      let h = cond_some (eqb (byte_at s p) newline) (p + 1) q e' in
       let b = eqb-true (byte_at s p) newline h.0 in
       let l : p < length s = in_text s p (rw b (omega arith)) in
       drop-cons s p 0 l ∙ rw (eq-eqb n 0 y, b, ← h.1, add-one p))
       (λ y.
-      let e' : cond (all_to (field_ok f s p n) n) (Ends (start_of f s p n)) NoLine ≡ Ends q = rw (ne_eqb n 0 y) at e in
-      let h = some_cond (all_to (field_ok f s p n) n) (start_of f s p n) q e' in
+      let e' : cond (all_to (field_ok f s p n) n) (Some (start_of f s p n)) None ≡ Some q = rw (ne_eqb n 0 y) at e in
+      let h = (cond_some (all_to (field_ok f s p n) n) (start_of f s p n) q e').1 in
       let a = line_right f s p n q e in
       fields_off n (λ j l. all_true (field_ok f s p n) n a j l) ∙ rw (ne_eqb n 0 y, h))
 
@@ -102,21 +92,12 @@ width_exact s p (suc k) h e f =
     lt_ten : {x : ℕ} (k : ℕ) → k ≡ 0 → x < 10 ^ suc k → x < 10
     lt_ten k w h = let q = rw w at h in omega arith
 
-small_all : (a b c : Bool) (x y v q : ℕ) → cond a (cond b (cond c (Number x y) NoNumber) NoNumber) NoNumber ≡ Number v q → (a ≡ true) × (c ≡ true) × (x ≡ v) × (y ≡ q)
-small_all true true true x y v q e = (refl, refl, cc, cc)
-small_all true true false x y v q e = let z : ◌≡◌ {A = ℕ} 0 1 = cc in clash z
-small_all true false c x y v q e = let z : ◌≡◌ {A = ℕ} 0 1 = cc in clash z
-small_all false b c x y v q e = let z : ◌≡◌ {A = ℕ} 0 1 = cc in clash z
-
-pub small_off : (s : List ℕ) (p bound c v q : ℕ) → 0 < c → small_at s p bound c ≡ Number v q → drop p s ≡ numeral 10 v ++ (c ∷ drop q s)
-unfolding small_at
+small_off : (s : List ℕ) (p bound c v q : ℕ) → 0 < c → small_at s p bound c ≡ number v q → drop p s ≡ numeral 10 v ++ (c ∷ drop q s)
 small_off s p bound c v q h e =
     let k = run_of 10 s p 19 in
-    let x = spelled 10 s p k in
-    let a = small_all (plain (byte_at s p) k) (leb x bound) (eqb (byte_at s (p + k)) c) x (p + k + 1) v q e in
-    let b = eqb-true (byte_at s (p + k)) c a.1 in
-    let w = width_exact s p k (run_le 10 s p 19) a.0 (run_digits 10 s p 19) in
-    run_off 10 (omega arith) (omega arith) s p 19 c b h ∙ rw (← a.2, ← a.3, w)
+    let a = small_read_at s p bound c v q e in
+    let w = width_exact s p k (run_le 10 s p 19) a.form (run_digits 10 s p 19) in
+    run_off 10 (omega arith) (omega arith) s p 19 c a.ended h ∙ rw (← a.value, ← a.end, w)
 
 -- ---- a whole text
 
@@ -148,15 +129,11 @@ module _ (f : Form) (s : List ℕ) (p n : ℕ) (h : all_to (field_ok f s p n) n 
 cells_wide : (s : List ℕ) (p n : ℕ) → all_to (field_ok cell_form s p n) n ≡ true → (j : ℕ) → j < n → width_at cell_form s p j ≡ 16
 cells_wide s p n h j l = omega (arith, field_least cell_form s p n h j l, field_most cell_form s p n h j l)
 
-end_all : (c : Bool) (n r d p q n' r' d' p' q' : ℕ) → cond c (Found n r d p q) NotFound ≡ Found n' r' d' p' q' → (c ≡ true) × (Found n r d p q ≡ Found n' r' d' p' q')
-end_all true n r d p q n' r' d' p' q' e = (refl, e)
-end_all false n r d p q n' r' d' p' q' e = let z : ◌≡◌ {A = ℕ} 0 1 = cc in clash z
-
 -- the text of what was read
 abbrev pub text_of : List ℕ → ℕ → ℕ → ℕ → ℕ → ℕ → List ℕ
 text_of s n r d p q = request_text n r d (value_of cell_form s p) (width_at draw_form s q) (value_of draw_form s q)
 
-lists_sound : (s : List ℕ) (n r d p q e : ℕ) → line_at cell_form s p (n * n) ≡ Ends q → line_at draw_form s q d ≡ Ends e → e ≡ length s
+lists_sound : (s : List ℕ) (n r d p q e : ℕ) → line_at cell_form s p (n * n) ≡ Some q → line_at draw_form s q d ≡ Some e → e ≡ length s
     → drop p s ≡ line_of 16 (λ t. 16) (value_of cell_form s p) (n * n) ++ line_of 10 (width_at draw_form s q) (value_of draw_form s q) d
 lists_sound s n r d p q e a b h =
     let z : drop e s ≡ [] = rw h (drop-length s) in
@@ -171,51 +148,26 @@ lists_sound s n r d p q e a b h =
 abbrev head_text : ℕ → ℕ → ℕ → List ℕ → List ℕ
 head_text n r d l = numeral 10 n ++ (space ∷ (numeral 10 r ++ (space ∷ (numeral 10 d ++ (newline ∷ l)))))
 
-moved_head : (s : List ℕ) (n r d p n' r' d' p' : ℕ) → Sizes n r d p ≡ Sizes n' r' d' p' → s ≡ head_text n r d (drop p s) → s ≡ head_text n' r' d' (drop p' s)
-moved_head s n r d p n' r' d' p' e h =
-    let x : n ≡ n' = cc in
-    let y : r ≡ r' = cc in
-    let z : d ≡ d' = cc in
-    let u : p ≡ p' = cc in
-    h ∙ rw (x, y, z, u)
-
-head_sound : (s : List ℕ) (n r d p : ℕ) → head_of s ≡ Sizes n r d p → s ≡ head_text n r d (drop p s)
-unfolding head_of
+head_sound : (s : List ℕ) (n r d p : ℕ) → head_of s ≡ sizes n r d p → s ≡ head_text n r d (drop p s)
 head_sound s n r d p e =
-    let a = small_taken (small_at s 0 12 space) _ n r d p e in
-    let b = small_taken (small_at s a.p (2 ^ 32 - 1) space) _ n r d p a.next in
-    let c = small_taken (small_at s b.p 1024 newline) (λ d' e'. Sizes a.v b.v d' e') n r d p b.next in
-    moved_head s a.v b.v c.v c.p n r d p c.next
-    (small_off s 0 12 space a.v a.p (omega arith) a.is
-    ∙ ap (λ (l : List ℕ). numeral 10 a.v ++ (space ∷ l))
-    (small_off s a.p (2 ^ 32 - 1) space b.v b.p (omega arith) b.is
-    ∙ ap (λ (l : List ℕ). numeral 10 b.v ++ (space ∷ l)) (small_off s b.p 1024 newline c.v c.p (omega arith) c.is)))
+    let h = head_read s n r d p e in
+    small_off s 0 12 space n h.second (omega arith) h.names
+    ∙ ap (λ (l : List ℕ). numeral 10 n ++ (space ∷ l))
+    (small_off s h.second (2 ^ 32 - 1) space r h.third (omega arith) h.repeats
+    ∙ ap (λ (l : List ℕ). numeral 10 r ++ (space ∷ l)) (small_off s h.third 1024 newline d p (omega arith) h.draws))
 
-moved_text : (s : List ℕ) (n r d p q n' r' d' p' q' : ℕ) → Found n r d p q ≡ Found n' r' d' p' q' → s ≡ text_of s n r d p q → s ≡ text_of s n' r' d' p' q'
-moved_text s n r d p q n' r' d' p' q' e h =
-    let x : n ≡ n' = cc in
-    let y : r ≡ r' = cc in
-    let z : d ≡ d' = cc in
-    let u : p ≡ p' = cc in
-    let v : q ≡ q' = cc in
-    h ∙ rw (x, y, z, u, v)
-
-pub sound : (s : List ℕ) (n r d p q : ℕ) → layout_of s ≡ Found n r d p q → s ≡ text_of s n r d p q
-unfolding layout_of lists_of request_text
+pub sound : (s : List ℕ) (n r d p q : ℕ) → layout_of s ≡ found n r d p q → s ≡ text_of s n r d p q
+unfolding request_text
 sound s n r d p q e =
-    let h = head_taken (head_of s) (lists_of s) n r d p q e in
-    let a = line_taken (line_at cell_form s h.p (h.n * h.n)) _ n r d p q h.next in
-    let b = line_taken (line_at draw_form s a.p h.d) (λ e'. cond (eqb e' (length s)) (Found h.n h.r h.d h.p a.p) NotFound) n r d p q a.next in
-    let c = end_all (eqb b.p (length s)) h.n h.r h.d h.p a.p n r d p q b.next in
-    moved_text s h.n h.r h.d h.p a.p n r d p q c.1
-    (head_sound s h.n h.r h.d h.p h.is
-    ∙ ap (head_text h.n h.r h.d) (lists_sound s h.n h.r h.d h.p a.p b.p a.is b.is (eqb-true b.p (length s) c.0)))
+    let l = steps s (record { names = n; repeats = r; draws = d; cells_at = p; draws_at = q }) e in
+    head_sound s n r d p l.head
+    ∙ ap (head_text n r d) (lists_sound s n r d p q l.end l.cells l.draws l.last)
 
 -- and what was read keeps to the limits
 below : (x k : ℕ) → x < 16 ^ k → k ≡ 16 → x < 2 ^ 64
 below x k h e = let y : x < 16 ^ 16 = rw e at h in omega arith
 
-pub sound_limits : (s : List ℕ) (n r d p q : ℕ) → layout_of s ≡ Found n r d p q
+pub sound_limits : (s : List ℕ) (n r d p q : ℕ) → layout_of s ≡ found n r d p q
     → Limits n r d (value_of cell_form s p) (width_at draw_form s q) (value_of draw_form s q)
 sound_limits s n r d p q e =
     let a = accepted s n r d p q e in

@@ -15,7 +15,7 @@ groups_of-groups-requires c =
     let x : ℕ → ℕ → Float = dist_at c.args.book.now c.args.n c.args.rows.now in
     let l : List ℕ = c.best_of_book.new.labels in
     let e : length l ≡ m = c.best_of_book.auto.labels ∙ c.requires.3 in
-    let q = rw (c.in-Done.is, c.in-Candidate.is) at c.best_of_book.ensures in (
+    let q = rw (c.in_ok-found.was, c.in-Some.is) at c.best_of_book.ensures in (
       omega (arith, e, c.requires.0.few_read),
       c.requires.4 ∙ sym e,
       c.requires.5 ∙ sym e,

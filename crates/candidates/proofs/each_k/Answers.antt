@@ -1,3 +1,4 @@
+use Rattle.std.proofs.lemmas.Result.{err_from_is_err_and}
 use Prim.Native.Nat.{◌-◌, ◌<◌, ◌≤◌, ℕ}
 use mathlib.Core.Path.{◌∙◌, ◌≡◌, ap, refl, subst, sym}
 use native.Mathlib.Omega.{arith}
@@ -7,14 +8,13 @@ use Rattle.draws.specs.Counts.{count_of, seedings_of, tries}
 use Rattle.plusplus_seeded.specs.Sources.{RngOf, moved_on, words_by}
 use Rattle.kmeans.specs.Steps.{seed_given, seed_moved}
 use Rattle.candidates.specs.Made.{repeat_moved, tries_given, tries_made, tries_moved}
-use Rattle.candidates.specs.Steps.{SearchedBy, best_from}
+use Rattle.candidates.specs.Steps.{searched, SearchedBy, best_from}
 use Rattle.distance_columns.specs.Columns.{points_at}
 use Rattle.silhouette_areas.proofs.Laws.{points_stay, round_kept}
 use Rattle.candidates.specs.Candidates.{tries_from}
 use Rattle.candidates.proofs.Turns.{lists_stay, moved_end, tries_none, turn_done, turn_stopped, turn_supply}
 use Rattle.candidates.proofs.Laws.{count_is, tries_few}
 use Rattle.candidates.proofs.Answers.{done_by, searched_done, stopped_by}
-use Rattle.candidates.specs.declared.Searched.TheVariants.{Done, Stopped}
 use Rattle.candidates.proofs.each_k.Goals as goal
 use Rattle.candidates.proofs.each_k.Goals.{After-try_k}
 
@@ -48,8 +48,8 @@ try_k-requires c =
     let h : l.k < c.groups_end-end.result = c.loop-k-test.true in
     (round_kept a.m l.area a.area.now l.invariant.4 l.invariant.5 p.0, record { two = l.invariant.1; names = omega (arith, h, l.invariant.0, tries_few a.m p.1); supplies = turn_supply (points_at a.area.now a.m) a.m p.0.held.some l.k c.groups_end-end.result (best_from l.best l.labels l.scores) l.here a.draws.now h l.invariant.3 }, l.invariant.6, l.invariant.9)
 
-pub returns-in-Stopped : goal.returns-in-Stopped
-returns-in-Stopped c =
+pub returns-in_err-found : goal.returns-in_err-found
+returns-in_err-found c =
     let a = c.args in
     let m = a.m in
     let x = points_at a.area.now m in
@@ -58,16 +58,16 @@ returns-in-Stopped c =
     let labels = c.try_k.new.labels in
     let scores = c.try_k.new.scores in
     let u = best_from l.best l.labels l.scores in
-    let w = c.in-Stopped.s in
-    let q : SearchedBy (tries_from x m l.k 1 u l.here.at ds) (seed_moved x m l.k l.here) (Stopped w) labels scores = rw c.in-Stopped.is at (turn (goal.at.returns-in-Stopped c).After-try_k) in
+    let q = rw c.in_err-found.was at (turn (goal.at.returns-in_err-found c).After-try_k) in
     let end = c.groups_end-end.result in
     let h : l.k < end = c.loop-k-test.true in
     let few : l.k ≤ m = omega (arith, h, l.invariant.0, tries_few m c.requires.1) in
     let v = turn_stopped x m c.requires.0.held.some l.k end u l.here a.draws.now (omega (arith, l.invariant.1)) few h q in
+    let y = err_from_is_err_and c.from_residual.result c.from_residual.ensures.1 in
     record {
-      searched_by = stopped_by (tries_from x m 2 (tries m) (best_from a.kept a.labels.now a.scores.now) a.from.at (tries_given x m 2 (tries m) a.from a.draws.now)) (repeat_moved x m a.from) w labels scores v.0 (l.invariant.7 ∙ v.1) v.2;
+      searched_by = rw (y.1, y.2) (stopped_by (tries_from x m 2 (tries m) (best_from a.kept a.labels.now a.scores.now) a.from.at (tries_given x m 2 (tries m) a.from a.draws.now)) (repeat_moved x m a.from) _ labels scores v.0 (l.invariant.7 ∙ v.1) v.2);
       area_unchanged = c.try_k.ensures.area_unchanged ∙ l.invariant.4;
-      rng_behind = tt;
+      rng_behind = rw (y.1) tt;
     }
 
 pub loop-k-preserved : goal.loop-k-preserved
@@ -81,10 +81,10 @@ loop-k-preserved c =
     let labels = c.try_k.new.labels in
     let scores = c.try_k.new.scores in
     let u = best_from l.best l.labels l.scores in
-    let n = c.in-Done.next in
-    let b = c.in-Done.b in
+    let n = c.in_ok-found.found.source in
+    let b = c.in_ok-found.found.kept in
     let h : l.k < end = c.loop-k-test.true in
-    let q : SearchedBy (tries_from x m l.k 1 u l.here.at ds) (seed_moved x m l.k l.here) (Done n b) labels scores = rw c.in-Done.is at (turn (goal.at.loop-k-preserved c).After-try_k) in
+    let q : SearchedBy (tries_from x m l.k 1 u l.here.at ds) (seed_moved x m l.k l.here) (searched n b) labels scores = rw c.in_ok-found.was at (turn (goal.at.loop-k-preserved c).After-try_k) in
     let few : l.k ≤ m = omega (arith, h, l.invariant.0, tries_few m c.requires.1) in
     let v = turn_done x m c.requires.0.held.some l.k end u l.here a.draws.now (omega (arith, l.invariant.1)) few h q in (
       l.invariant.0,

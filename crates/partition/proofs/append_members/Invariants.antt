@@ -1,4 +1,4 @@
-use Prim.Native.Nat.{◌+◌, ◌≤◌}
+use Prim.Native.Nat.{◌+◌}
 use mathlib.Core.Path.{◌≡◌}
 use lib.ListN.{length}
 use Rattle.lists.specs.Lists.{numbers, put}
@@ -7,5 +7,5 @@ use Rattle.partition.proofs.append_members.Given as goal
 
 abbrev pub invariant-loop-i : goal.invariant-loop-i
 invariant-loop-i l =
-    (l.m ≡ length l.labels) × (l.i ≤ l.m) × (length l.order ≡ length l.initial.order) × (l.to ≡ l.at + length (members (numbers l.labels) l.i l.l))
+    (length l.order ≡ length l.initial.order) × (l.to ≡ l.at + length (members (numbers l.labels) l.i l.l))
     × (l.order ≡ put l.at (length (members (numbers l.labels) l.i l.l)) l.initial.order (members (numbers l.labels) l.i l.l))

@@ -1,6 +1,8 @@
+use Rattle.std.specs.Prelude.{Ok}
 use Rattle.plusplus_pick.specs.Potentials.{with}
 use Rattle.lists.specs.Lists.{cells, listed}
 use Rattle.plusplus.specs.Seeding.{Weights}
+use Rattle.std.proofs.lemmas.Result.{err_from_is_err_and}
 use Prim.Native.Nat.{◌+◌, ◌<◌, ◌≤◌}
 use mathlib.Core.Path.{◌∙◌, ◌≡◌, sym}
 use native.Mathlib.Omega.{arith}
@@ -10,7 +12,6 @@ use Rattle.plusplus_trials.specs.Trials.{next_of, table, tried_of}
 use Rattle.plusplus_trials.proofs.Centring.{next_took, search_best, search_stopped}
 use Rattle.draws.proofs.Taken.{Ends, ends_map}
 use Rattle.plusplus.proofs.Turns.{row_fits, weights_best, weights_stopped}
-use Rattle.plusplus_trials.specs.declared.Tried.TheVariants.{Best}
 use Rattle.plusplus_pick.specs.declared.Trial.{Trial}
 use Rattle.plusplus.proofs.centre_by_sums.Goals as goal
 use Rattle.plusplus.proofs.centre_by_sums.Goals.{Start}
@@ -30,37 +31,38 @@ picks s =
     ends_map (λ b rest. (b.pick < m) × (rest ≡ drop a.count ds) × (a.count ≤ length ds)) (λ p. (a.at ≤ p) × (p < a.at + a.count)) (λ b rest. Pick s b) (λ p. Unit) (found s)
     (next_took (table a.squares.now m) m a.count s.requires.weighed.0.some (omega (arith, s.requires.le_count.0)) a.weights.now a.at ds) (λ b rest h. h.0) (λ p h. tt)
 
-below : (s : Start) (b : Trial) → tried_of (found s) ≡ Best b → Pick s b
+below : (s : Start) (b : Trial) → tried_of (found s) ≡ Ok b → Pick s b
 below s b e = search_best (λ x rest. Pick s x) (λ p. Unit) (Pick s b) (found s) e (picks s) (λ rest d h. h)
 
 pub row_of-requires : goal.row_of-requires
 row_of-requires c =
     let s = (goal.at.row_of-requires c).Start in
     let w = s.requires.weighed.0 in
-    (w.few, omega (arith, w.square), omega (arith, w.some, below s c.in-Best.b (sym c.best_trial.ensures ∙ c.in-Best.is)))
+    (w.few, omega (arith, w.square), omega (arith, w.some, below s c.in_ok-b.b (sym c.best_trial.ensures ∙ c.in_ok-b.was)))
 
 pub keep_lesser-requires : goal.keep_lesser-requires
 keep_lesser-requires c =
     let s = (goal.at.keep_lesser-requires c).Start in
     let w = s.requires.weighed.0 in
     row_fits s.args.squares.now (length s.args.weights.now) _ c.row_of.ensures (omega (arith, w.square))
-    (omega (arith, w.some, below s c.in-Best.b (sym c.best_trial.ensures ∙ c.in-Best.is)))
+    (omega (arith, w.some, below s c.in_ok-b.b (sym c.best_trial.ensures ∙ c.in_ok-b.was)))
 
-pub returns-in-Stopped : goal.returns-in-Stopped
-returns-in-Stopped c =
-    let s = (goal.at.returns-in-Stopped c).Start in
+pub returns-in_err-b : goal.returns-in_err-b
+returns-in_err-b c =
+    let s = (goal.at.returns-in_err-b c).Start in
     let m = length s.args.weights.now in
-    let e = sym c.best_trial.ensures ∙ c.in-Stopped.is in
-    record { value = sym e; weights = weights_stopped (table s.args.squares.now m) m s.args.weights.now s.args.weights.now (found s) (search_stopped (found s) e) }
+    let e = sym c.best_trial.ensures ∙ c.in_err-b.was in
+    let x = err_from_is_err_and c.from_residual.result c.from_residual.ensures.1 in
+    record { value = rw (x.1, x.2) (sym e); weights = weights_stopped (table s.args.squares.now m) m s.args.weights.now s.args.weights.now (found s) (search_stopped (found s) e) }
 
-pub returns-in-Best : goal.returns-in-Best
-returns-in-Best c =
-    let s = (goal.at.returns-in-Best c).Start in
+pub returns : goal.returns
+returns c =
+    let s = (goal.at.returns c).Start in
     let m = length s.args.weights.now in
     let w = s.args.weights.now in
-    let b = c.in-Best.b in
+    let b = c.in_ok-b.b in
     let l = c.keep_lesser.new.weights in
-    let e : tried_of (found s) ≡ Best b = sym c.best_trial.ensures ∙ c.in-Best.is in
+    let e : tried_of (found s) ≡ Ok b = sym c.best_trial.ensures ∙ c.in_ok-b.was in
     let k : l ≡ listed (with (table s.args.squares.now m) (cells w) b.pick) m = c.keep_lesser.ensures ∙ rw c.row_of.ensures in
     record {
       value = sym e;

@@ -9,17 +9,15 @@ use Rattle.plusplus.proofs.keep_lesser.Goals as goal
 
 pub loop-i-init : goal.loop-i-init
 unfolding writes
-loop-i-init c = (refl, omega arith, refl, refl)
+loop-i-init c = (refl, refl)
 
 pub loop-i-preserved : goal.loop-i-preserved
 loop-i-preserved c =
     let a = c.args in
     let l = c.loop-i in (
-      refl,
-      omega arith,
       simp length-set (omega arith),
-      ap (set l.weights l.i) c.lesser_number.ensures ∙ writes_step nan (λ s k. lesser_number s (cells a.squares.now k)) l.i a.weights.now l.invariant.3,
+      ap (set l.weights l.i) c.lesser_number.ensures ∙ writes_step nan (λ s k. lesser_number s (cells a.squares.now k)) l.i a.weights.now l.invariant.1,
     )
 
 pub returns : goal.returns
-returns c = writes_done nan _ _ _ _ c.loop-i.invariant.3 (omega arith) refl
+returns c = writes_done nan _ _ _ _ c.loop-i.invariant.1 (omega arith) refl

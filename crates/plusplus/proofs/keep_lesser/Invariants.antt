@@ -1,4 +1,3 @@
-use Prim.Native.Nat.{◌≤◌}
 use mathlib.Core.Path.{◌≡◌}
 use lib.ListN.{length}
 use Rattle.lists.specs.Lists.{cells}
@@ -7,4 +6,4 @@ use Rattle.plusplus_pick.specs.Potentials.{lesser_number}
 use Rattle.plusplus.proofs.keep_lesser.Given as goal
 
 abbrev pub invariant-loop-i : goal.invariant-loop-i
-invariant-loop-i l = (l.m ≡ length l.initial.weights) × (l.i ≤ l.m) × (length l.weights ≡ l.m) × (l.weights ≡ writes (λ k. lesser_number (cells l.initial.weights k) (cells l.squares k)) l.i l.initial.weights)
+invariant-loop-i l = (length l.weights ≡ length l.initial.weights) × (l.weights ≡ writes (λ k. lesser_number (cells l.initial.weights k) (cells l.squares k)) l.i l.initial.weights)

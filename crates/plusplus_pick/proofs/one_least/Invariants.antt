@@ -1,9 +1,7 @@
-use Prim.Native.Nat.{◌≤◌}
 use mathlib.Core.Path.{◌≡◌}
-use lib.ListN.{length}
 use Rattle.lists.specs.Sums.{lesser, sum_to}
 use Rattle.lists.specs.Lists.{cells}
 use Rattle.plusplus_pick.proofs.one_least.Given as goal
 
 abbrev pub invariant-loop-i : goal.invariant-loop-i
-invariant-loop-i l = (l.m ≡ length l.weights) × (l.i ≤ l.m) × (l.sum ≡ sum_to (λ k. lesser (cells l.a k) (cells l.weights k)) l.i)
+invariant-loop-i l = l.sum ≡ sum_to (λ k. lesser (cells l.a k) (cells l.weights k)) l.i

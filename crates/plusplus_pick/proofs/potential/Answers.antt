@@ -1,5 +1,4 @@
 use mathlib.Core.Path.{◌∙◌, ap, refl}
-use native.Mathlib.Omega.{arith}
 use lib.Ieee.{add, binary64, of_bits}
 use Rattle.lists.specs.Lists.{cells}
 use Rattle.lists.specs.Sums.{sum_to}
@@ -9,10 +8,10 @@ use Rattle.plusplus_pick.proofs.potential.Goals as goal
 
 pub loop-i-init : goal.loop-i-init
 unfolding sum_to of_bits
-loop-i-init c = (refl, omega arith, refl)
+loop-i-init c = (refl)
 
 pub loop-i-preserved : goal.loop-i-preserved
 loop-i-preserved c =
     let a = c.args in
     let l = c.loop-i in
-    (refl, omega arith, ap (add binary64 l.sum) c.lesser_number-sum.ensures ∙ sum_more (λ k. lesser_number (cells a.weights.now k) (cells a.squares.now k)) l.i l.invariant.2)
+    (ap (add binary64 l.sum) c.lesser_number-sum.ensures ∙ sum_more (λ k. lesser_number (cells a.weights.now k) (cells a.squares.now k)) l.i l.invariant)

@@ -11,16 +11,16 @@ use Rattle.plusplus_pick.proofs.sum_weights.Goals as goal
 
 pub loop-i-init : goal.loop-i-init
 unfolding sum_to writes of_bits
-loop-i-init c = (refl, omega arith, c.requires, refl, refl)
+loop-i-init c = (c.requires, refl, refl)
 
 pub loop-i-preserved : goal.loop-i-preserved
 loop-i-preserved c =
     let h = c.loop-i.invariant in
     let w = cells c.args.weights.now in
-    (refl, omega arith, simp length-set h.2, sum_more w c.loop-i.i h.3, writes_one _ _ _ h.4 (running_more w c.loop-i.i h.3))
+    (simp length-set h.0, sum_more w c.loop-i.i h.1, writes_one _ _ _ h.2 (running_more w c.loop-i.i h.1))
 
 pub returns : goal.returns
 returns c =
     let h = c.loop-i.invariant in
     let e : c.loop-i.i ≡ length c.args.weights.now = omega arith in
-    (h.3 ∙ ap (sum_to (cells c.args.weights.now)) e, writes_done nan _ _ _ _ h.4 e c.requires)
+    (h.1 ∙ ap (sum_to (cells c.args.weights.now)) e, writes_done nan _ _ _ _ h.2 e c.requires)

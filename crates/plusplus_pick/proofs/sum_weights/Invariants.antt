@@ -1,4 +1,3 @@
-use Prim.Native.Nat.{◌≤◌}
 use mathlib.Core.Path.{◌≡◌}
 use lib.ListN.{length}
 use Rattle.plusplus_pick.specs.Potentials.{running}
@@ -8,4 +7,4 @@ use Rattle.lists.proofs.Listed.{writes}
 use Rattle.plusplus_pick.proofs.sum_weights.Given as goal
 
 abbrev pub invariant-loop-i : goal.invariant-loop-i
-invariant-loop-i l = (l.m ≡ length l.weights) × (l.i ≤ l.m) × (length l.sums ≡ l.m) × (l.sum ≡ sum_to (cells l.weights) l.i) × (l.sums ≡ writes (running (cells l.weights)) l.i l.initial.sums)
+invariant-loop-i l = (length l.sums ≡ length l.weights) × (l.sum ≡ sum_to (cells l.weights) l.i) × (l.sums ≡ writes (running (cells l.weights)) l.i l.initial.sums)

@@ -9,19 +9,17 @@ use Rattle.plusplus_pick.proofs.two_least.Goals as goal
 
 pub loop-i-init : goal.loop-i-init
 unfolding sum_to of_bits
-loop-i-init c = (refl, omega arith, refl, refl)
+loop-i-init c = (refl, refl)
 
 pub loop-i-preserved : goal.loop-i-preserved
 loop-i-preserved c =
     let s = c.args in
     let l = c.loop-i in (
-      refl,
-      omega arith,
-      ap (add binary64 l.first) c.lesser-first.ensures ∙ sum_more (λ k. lesser (cells s.a.now k) (cells s.weights.now k)) l.i l.invariant.2,
-      ap (add binary64 l.second) c.lesser-second.ensures ∙ sum_more (λ k. lesser (cells s.b.now k) (cells s.weights.now k)) l.i l.invariant.3,
+      ap (add binary64 l.first) c.lesser-first.ensures ∙ sum_more (λ k. lesser (cells s.a.now k) (cells s.weights.now k)) l.i l.invariant.0,
+      ap (add binary64 l.second) c.lesser-second.ensures ∙ sum_more (λ k. lesser (cells s.b.now k) (cells s.weights.now k)) l.i l.invariant.1,
     )
 
 pub returns : goal.returns
 returns c =
     let e : c.loop-i.i ≡ length c.args.weights.now = omega arith in
-    (rw e at c.loop-i.invariant.2, rw e at c.loop-i.invariant.3)
+    (rw e at c.loop-i.invariant.0, rw e at c.loop-i.invariant.1)

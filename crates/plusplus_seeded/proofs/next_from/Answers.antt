@@ -1,3 +1,4 @@
+use Rattle.std.specs.Prelude.{Ok, Err}
 use mathlib.Core.Path.{subst}
 use Rattle.lists.specs.Lists.{cells, listed}
 use Rattle.plusplus.specs.Seeding.{Weights}
@@ -17,7 +18,6 @@ use Rattle.rng_std.proofs.Ranges.{word_below}
 use Rattle.plusplus_seeded.specs.Seeded.{centre_draws, draws_by, pick_of, rule_of}
 use Rattle.plusplus_seeded.proofs.Fine.{pick_fine}
 use Rattle.plusplus_seeded.proofs.Made.{centre_fine, centre_long}
-use Rattle.plusplus_trials.specs.declared.Tried.TheVariants.{Best, Stopped}
 use Rattle.plusplus_pick.specs.declared.Trial.{Trial}
 use Rattle.plusplus_seeded.proofs.next_from.Goals as goal
 use Rattle.plusplus_seeded.proofs.next_from.Goals.{After-centre_by_sums}
@@ -61,7 +61,7 @@ taken-are c =
     c.draw_all-next.ensures.1
     ∙ ap (λ (x : Float). place_of (rule_of (words c) x (items c)) (trials c) c.args.taken) c.sum_weights-total.ensures.0
 
-found : (c : After-centre_by_sums) → c.centre_by_sums.result ≡ Best (fine c).0
+found : (c : After-centre_by_sums) → c.centre_by_sums.result ≡ Ok (fine c).0
 found c = c.centre_by_sums.ensures.value ∙ ap (λ (l : List ℕ). tried_of (search-of c l)) (draws_are c) ∙ ap tried_of (fine c).1
 
 weights-are : (c : After-centre_by_sums) → c.centre_by_sums.new.weights ≡ listed (with (squared c) (cells c.args.weights.now) (fine c).0.pick) (items c)
@@ -69,20 +69,20 @@ weights-are c =
     subst (λ (D : Drawn Trial). Weights (squared c) (items c) c.args.weights.now D c.centre_by_sums.new.weights)
     (ap (search-of c) (draws_are c) ∙ (fine c).1) c.centre_by_sums.ensures.weights
 
-pub returns-in-Stopped : goal.returns-in-Stopped
-returns-in-Stopped c =
-    let b = (fine (goal.at.returns-in-Stopped c).After-centre_by_sums).0 in
-    let s = c.in-Stopped.s in
-    let e : Stopped s ≡ Best b = sym c.in-Stopped.is ∙ found (goal.at.returns-in-Stopped c).After-centre_by_sums in
+pub returns-in-Err : goal.returns-in-Err
+returns-in-Err c =
+    let b = (fine (goal.at.returns-in-Err c).After-centre_by_sums).0 in
+    let s = c.in-Err._stop in
+    let e : Err s ≡ Ok b = sym c.in-Err.is ∙ found (goal.at.returns-in-Err c).After-centre_by_sums in
     let z : ◌≡◌ {A = ℕ} 0 1 = cc in
     absurd (omega arith)
 
-pub returns-in-Best : goal.returns-in-Best
-returns-in-Best c =
-    let f = (goal.at.returns-in-Best c).After-centre_by_sums in
+pub returns-in-Ok : goal.returns-in-Ok
+returns-in-Ok c =
+    let f = (goal.at.returns-in-Ok c).After-centre_by_sums in
     let x = (fine f).0 in
-    let b = c.in-Best.b in
-    let e : Best b ≡ Best x = sym c.in-Best.is ∙ found f in
+    let b = c.in-Ok.b in
+    let e : Ok b ≡ Ok x = sym c.in-Ok.is ∙ found f in
     let d : b ≡ x = cc in
     let p : b.pick ≡ x.pick = ap (λ (y : Trial). y.pick) d in
     record {

@@ -1,4 +1,3 @@
-use Prim.Native.Nat.{◌≤◌}
 use mathlib.Core.Path.{◌≡◌}
 use lib.ListN.{length}
 use Rattle.lists.specs.Lists.{numbers}
@@ -9,4 +8,4 @@ use Rattle.quality.specs.Quality.{quality_of}
 use Rattle.quality.proofs.qualities.Given as goal
 
 abbrev pub invariant-loop-g : goal.invariant-loop-g
-invariant-loop-g l = (l.count ≡ length l.initial.out) × (l.g ≤ l.count) × (l.at ≡ total_to (numbers l.sizes) l.g) × (length l.out ≡ l.count) × (l.out ≡ writes (λ k. quality_of l.scores (group_at (cut (length l.initial.out) l.sizes l.order) k)) l.g l.initial.out)
+invariant-loop-g l = (l.at ≡ total_to (numbers l.sizes) l.g) × (length l.out ≡ length l.initial.out) × (l.out ≡ writes (λ k. quality_of l.scores (group_at (cut (length l.initial.out) l.sizes l.order) k)) l.g l.initial.out)

@@ -1,3 +1,4 @@
+use Rattle.std.proofs.lemmas.Result.{err_from_is_err_and}
 use Prim.Native.Nat.{◌*◌, ◌+◌, ◌-◌, ℕ}
 use mathlib.Core.Path.{◌∙◌, ◌≡◌}
 use native.Mathlib.Omega.{arith}
@@ -11,20 +12,21 @@ find_weak-weak-requires c =
     let lo : length c.cluster_kmeans_base.new.order ≡ m = c.cluster_kmeans_base.auto.order in
     let lz : length c.cluster_kmeans_base.new.sizes ≡ m = c.cluster_kmeans_base.auto.sizes ∙ c.requires.1 in
     let lq : length c.cluster_kmeans_base.new.scores ≡ m = c.cluster_kmeans_base.auto.scores ∙ c.requires.2 in
-    let b = opened_law _ _ _ _ _ _ _ _ _ c.requires.0 c.in-Done.groups c.in-Done.next (rw c.in-Done.is at c.cluster_kmeans_base.ensures) in
+    let b = opened_law _ _ _ _ _ _ _ _ _ c.requires.0 c.in_ok-based.based.groups c.in_ok-based.based.source (rw c.in_ok-based.was at c.cluster_kmeans_base.ensures) in
     let lw : length c.store_base.new.wi ≡ length c.args.wi.now = c.store_base.auto.wi in
     (opened_sized _ _ _ _ _ _ _ _ _ c.requires.0 _ _ _ _ _ b lo lq, omega (arith, lq, c.requires.0.reads.items), c.requires.0.reads.few, omega (arith, lw, c.requires.0.room))
 
-pub returns-in-Stopped : goal.returns-in-Stopped
-returns-in-Stopped c =
+pub returns-in_err-based : goal.returns-in_err-based
+returns-in_err-based c =
     let m : ℕ = length c.args.order.now in
     let k : ℕ = c.args.left * c.args.n + 5 * (m * m) - c.args.left * c.args.n in
     let ek : k ≡ 5 * (m * m) = omega arith in
     let la : length c.cluster_kmeans_base.new.area ≡ k = c.cluster_kmeans_base.auto.area ∙ open_part _ _ _ _ _ _ _ _ _ c.requires.0 k ek in
-    stopped_law _ _ _ _ _ _ _ _ _ c.requires.0 k c.cluster_kmeans_base.new.area ek la c.in-Stopped.s (rw c.in-Stopped.is at c.cluster_kmeans_base.ensures)
+    let y = err_from_is_err_and c.from_residual.result c.from_residual.ensures.1 in
+    rw (y.1, y.2) (stopped_law _ _ _ _ _ _ _ _ _ c.requires.0 k c.cluster_kmeans_base.new.area ek la _ (rw c.in_err-based.was at c.cluster_kmeans_base.ensures))
 
-pub returns-in-Done : goal.returns-in-Done
-returns-in-Done c =
+pub returns : goal.returns
+returns c =
     let m : ℕ = length c.args.order.now in
     let k : ℕ = c.args.left * c.args.n + 5 * (m * m) - c.args.left * c.args.n in
     let ek : k ≡ 5 * (m * m) = omega arith in
@@ -32,5 +34,5 @@ returns-in-Done c =
     let lo : length c.cluster_kmeans_base.new.order ≡ m = c.cluster_kmeans_base.auto.order in
     let lz : length c.cluster_kmeans_base.new.sizes ≡ m = c.cluster_kmeans_base.auto.sizes ∙ c.requires.1 in
     let lq : length c.cluster_kmeans_base.new.scores ≡ m = c.cluster_kmeans_base.auto.scores ∙ c.requires.2 in
-    let b = opened_law _ _ _ _ _ _ _ _ _ c.requires.0 c.in-Done.groups c.in-Done.next (rw c.in-Done.is at c.cluster_kmeans_base.ensures) in
+    let b = opened_law _ _ _ _ _ _ _ _ _ c.requires.0 c.in_ok-based.based.groups c.in_ok-based.based.source (rw c.in_ok-based.was at c.cluster_kmeans_base.ensures) in
     started_law _ _ _ _ _ _ _ _ _ c.requires.0 _ _ _ _ _ b lo lq _ _ _ _ _ _ (area_beyond _ _ _ _ _ _ _ _ _ c.requires.0 k c.cluster_kmeans_base.new.area ek la) c.store_base.ensures c.find_weak-weak.ensures

@@ -1,4 +1,3 @@
-use Prim.Native.Nat.{◌≤◌}
 use mathlib.Core.Path.{◌≡◌}
 use lib.ListN.{length}
 use Rattle.lists.specs.Lists.{numbers}
@@ -6,4 +5,4 @@ use Rattle.lists.proofs.Listed.{writes}
 use Rattle.row_numbers.proofs.translate.Given as goal
 
 abbrev pub invariant-loop-i : goal.invariant-loop-i
-invariant-loop-i l = (l.n ≡ length l.locals) × (l.i ≤ l.n) × (length l.out ≡ l.n) × (l.out ≡ writes (λ k. numbers l.rows (numbers l.locals k)) l.i l.initial.out)
+invariant-loop-i l = (length l.out ≡ length l.locals) × (l.out ≡ writes (λ k. numbers l.rows (numbers l.locals k)) l.i l.initial.out)
