@@ -31,7 +31,7 @@ pub fn fill_distances<'a, 'b>(b: Book<'a, 'b>, out: &mut [f64])
     requires { Readable b.cells.now b.n b.rows.now × (0 < length b.rows.now) × (length out.old ≡ length b.rows.now * length b.rows.now) }
     ensures { out.new ≡ matrix_of (dist_at b.entry.cells.now b.entry.n b.entry.rows.now) (length b.entry.rows.now) }
 {
-    return distance::fill_distances(b.cells, b.n, b.rows, out)
+    distance::fill_distances(b.cells, b.n, b.rows, out)
 }
 
 // Its cells, row by row. Inner form.
@@ -39,21 +39,21 @@ pub fn fill_cells<'a, 'b>(b: Book<'a, 'b>, out: &mut [f64])
     requires { Readable b.cells.now b.n b.rows.now × (0 < length b.rows.now) × (length out.old ≡ length b.rows.now * length b.rows.now) }
     ensures { out.new ≡ matrix_of (cell_through b.entry.cells.now b.entry.n b.entry.rows.now) (length b.entry.rows.now) }
 {
-    return distance::fill_cells(b.cells, b.n, b.rows, out)
+    distance::fill_cells(b.cells, b.n, b.rows, out)
 }
 
 // Its distances, row by row in `out`; a refusal leaves `out` as it was.
 pub fn corr_to_distance<'a, 'b>(b: Book<'a, 'b>, out: &mut [f64]) -> Answer
     ensures { record { answer = refusal_of result; out = out.new } ≡ corr_to_distance_through b.entry.cells.now b.entry.n b.entry.rows.now out.old }
 {
-    return distance::corr_to_distance_through(b.cells, b.n, b.rows, out)
+    distance::corr_to_distance_through(b.cells, b.n, b.rows, out)
 }
 
 // The same of its cells.
 pub fn submatrix<'a, 'b>(b: Book<'a, 'b>, out: &mut [f64]) -> Answer
     ensures { record { answer = refusal_of result; out = out.new } ≡ submatrix_of b.entry.cells.now b.entry.n b.entry.rows.now out.old }
 {
-    return distance::submatrix(b.cells, b.n, b.rows, out)
+    distance::submatrix(b.cells, b.n, b.rows, out)
 }
 
 // The distances of the book that the rows make, of plain lists: what a round reads. Inner form.
@@ -61,7 +61,7 @@ pub fn distances_through(cells: &[f64], n: usize, rows: &[usize], out: &mut [f64
     requires { Readable cells.now n rows.now × (0 < length rows.now) × (length out.old ≡ length rows.now * length rows.now) }
     ensures { out.new ≡ matrix_of (dist_at cells.now n rows.now) (length rows.now) }
 {
-    return fill_distances(book_of(cells, n, rows), out)
+    fill_distances(book_of(cells, n, rows), out)
 }
 
 // Its cells: the ordered matrix, where the rows are the order. Inner form.
@@ -69,5 +69,5 @@ pub fn cells_through(cells: &[f64], n: usize, rows: &[usize], out: &mut [f64])
     requires { Readable cells.now n rows.now × (0 < length rows.now) × (length out.old ≡ length rows.now * length rows.now) }
     ensures { out.new ≡ matrix_of (cell_through cells.now n rows.now) (length rows.now) }
 {
-    return fill_cells(book_of(cells, n, rows), out)
+    fill_cells(book_of(cells, n, rows), out)
 }

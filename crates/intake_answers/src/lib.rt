@@ -4,10 +4,9 @@
 ghost use Rattle.std.specs.Prelude.{◌≡◌};
 ghost use Rattle.intake_answers.specs.Answers.{number_of, place_of};
 
-// A proper book, or the first row of the table that applies. The last three hold the cell's place, row times n plus column.
+// The first row of the table that applies. The last three hold the cell's place, row times n plus column.
 #[derive(Clone, Copy)]
-pub enum Intake {
-    Proper,
+pub enum IntakeError {
     InvalidCorrelationMatrix,
     TooLarge,
     CellCount,
@@ -16,18 +15,21 @@ pub enum Intake {
     Mirror(usize),
 }
 
+// A proper book, or why it is none.
+pub type Intake = Result<(), IntakeError>;
+
 // The table's number; 0 for a proper book.
 pub fn number_of(a: Intake) -> usize
     ensures { result ≡ number_of a }
 {
     match a {
-        Intake::Proper => 0,
-        Intake::InvalidCorrelationMatrix => 2,
-        Intake::TooLarge => 4,
-        Intake::CellCount => 5,
-        Intake::Range(_t) => 21,
-        Intake::Diagonal(_t) => 22,
-        Intake::Mirror(_t) => 23,
+        Ok(()) => 0,
+        Err(IntakeError::InvalidCorrelationMatrix) => 2,
+        Err(IntakeError::TooLarge) => 4,
+        Err(IntakeError::CellCount) => 5,
+        Err(IntakeError::Range(_t)) => 21,
+        Err(IntakeError::Diagonal(_t)) => 22,
+        Err(IntakeError::Mirror(_t)) => 23,
     }
 }
 
@@ -36,12 +38,9 @@ pub fn place_of(a: Intake) -> usize
     ensures { result ≡ place_of a }
 {
     match a {
-        Intake::Proper => 0,
-        Intake::InvalidCorrelationMatrix => 0,
-        Intake::TooLarge => 0,
-        Intake::CellCount => 0,
-        Intake::Range(t) => t,
-        Intake::Diagonal(t) => t,
-        Intake::Mirror(t) => t,
+        Err(IntakeError::Range(t)) => t,
+        Err(IntakeError::Diagonal(t)) => t,
+        Err(IntakeError::Mirror(t)) => t,
+        _ => 0,
     }
 }

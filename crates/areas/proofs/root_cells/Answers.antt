@@ -1,9 +1,8 @@
 use Prim.Native.Nat.{◌+◌, ◌<◌}
 use mathlib.Core.Path.{◌∙◌, ◌≡◌, ap, refl}
 use native.Mathlib.Omega.{arith}
-use lib.ListN.{length-set, set, take}
+use lib.ListN.{set, take}
 use lib.Ieee.{nan}
-use borrow.Author.Rules.{rules}
 use Rattle.sqrt.specs.Root.{root}
 use Rattle.lists.proofs.Parts.{get_d_front}
 use Rattle.lists.proofs.Areas.{stores, stores_kept, stores_more, stores_put}
@@ -11,18 +10,18 @@ use Rattle.areas.proofs.root_cells.Goals as goal
 
 pub loop-j-init : goal.loop-j-init
 unfolding stores
-loop-j-init c = (search rules, refl, refl)
+loop-j-init c = refl
 
 pub loop-j-preserved : goal.loop-j-preserved
 loop-j-preserved c =
     let a = c.args in
     let l = c.loop-j in
     let low : a.from + l.j < a.to = omega (arith, c.loop-j-test.true, c.requires.0) in
-    let kept : take a.to l.area ≡ take a.to a.area.now = stores_kept _ _ _ _ l.invariant.2 in
+    let kept : take a.to l.area ≡ take a.to a.area.now = stores_kept _ _ _ _ l.invariant in
     let e = c.sqrt.ensures ∙ ap root (get_d_front a.to (a.from + l.j) l.area a.area.now nan low kept) in
-    (search rules, simp length-set l.invariant.1, ap (set l.area (a.to + l.j)) e ∙ stores_more _ _ _ _ l.invariant.2)
+    ap (set l.area (a.to + l.j)) e ∙ stores_more _ _ _ _ l.invariant
 
 pub returns : goal.returns
 returns c =
     let e : c.loop-j.j ≡ c.args.count = omega arith in
-    stores_put nan _ _ _ _ (rw e at c.loop-j.invariant.2) c.requires.1
+    stores_put nan _ _ _ _ (rw e at c.loop-j.invariant) c.requires.1
