@@ -30,7 +30,7 @@ fn output(s: u64) -> u32
 {
     let x = (((s >> 18) ^ s) >> 27) % 0x1_0000_0000;
     let n = (s >> 59) as u32;
-    rng_chacha::rotate_left(x as u32, (32 - n) % 32)
+    (x as u32).rotate_right(n)
 }
 
 // The key of a seed: eight of them, the first after one step.
