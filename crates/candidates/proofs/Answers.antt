@@ -1,5 +1,5 @@
 -- What the answer of a call says of the definition, and the other way.
-use Rattle.std.specs.Prelude.{Option, Ok, Some, None, Err}
+use Rattle.std.specs.Prelude.{Option, Some, None, Err}
 use Prim.Native.Nat.{ℕ}
 use mathlib.Core.Path.{◌≡◌, refl, ap}
 use mathlib.Core.List.{List}
@@ -84,7 +84,7 @@ stopped_by D next w l s p e q = record { answer_is = rw (e, q) refl; leaves = rw
 pub tried_made : (D : Drawn candidates.Candidate) {next n : Source} {a b : Float} {l : List ℕ} {s : List Float} → TriedBy D next (made n a b) l s
     → (rest : List ℕ) × (n ≡ next) × (D ≡ drawn (record { labels = l; scores = s; stat = a; mean = b }) rest)
 tried_made (drawn c rest) {next} {n} {a} {b} {l} {s} h =
-    let p = made_parts n next a c.stat b c.mean h.answer_is in
+    let p = made_parts n next a b c.stat c.mean h.answer_is in
     (rest, p.0, rw (p.1, p.2, h.written.0, h.written.1))
 tried_made (refused p) {next} {n} {a} {b} {l} {s} h =
     let q : made n a b ≡ Err (DrawOutOfRange p) = h.answer_is in

@@ -1,5 +1,5 @@
 -- The steps of the functions: one candidate, whether it is kept, and the turns of the two loops.
-use Rattle.std.specs.Prelude.{Option, Ok, Some, None, Err}
+use Rattle.std.specs.Prelude.{Option, Some, None, Err}
 use Prim.Native.Nat.{ℕ, suc, ◌+◌, ◌-◌, ◌*◌, ◌<◌, ◌≤◌}
 use mathlib.Core.Path.{◌≡◌, refl, sym, ◌∙◌, ap}
 use mathlib.Core.Bool.{true, false}

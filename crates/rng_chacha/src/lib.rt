@@ -15,11 +15,12 @@ pub struct Quarter {
 }
 
 // x rotated left by n: its n upper bits become the lower ones. Inner form: n below 32.
+#[tactic(auto, unfolding(crate::specs::ChaCha::rotated))]
 pub fn rotate_left(x: u32, n: u32) -> u32
     requires { n < 32 }
     ensures { result ≡ rotated n x }
 {
-    (x << n) | (x >> ((32 - n) % 32))
+    x.rotate_left(n)
 }
 
 // Half of a quarter round: b into a, a into d, d into c, c into b.
@@ -27,9 +28,9 @@ fn half_round(q: Quarter, n: u32, m: u32) -> Quarter
     requires { (n < 32) × (m < 32) }
     ensures { result ≡ half_of n m q }
 {
-    let a = std::num::wrapping_add_u32(q.a, q.b);
+    let a = q.a.wrapping_add(q.b);
     let d = rotate_left(q.d ^ a, n);
-    let c = std::num::wrapping_add_u32(q.c, d);
+    let c = q.c.wrapping_add(d);
     let b = rotate_left(q.b ^ c, m);
     Quarter { a, b, c, d }
 }
@@ -85,7 +86,7 @@ fn double_rounds(s: [u32; 16], doubles: usize) -> [u32; 16]
     ensures { result ≡ rounds_of doubles s }
 {
     let mut t = s;
-    for i in 0..doubles {
+    for _ in 0..doubles {
         t = diagonal_round(column_round(t));
     }
     t
@@ -96,8 +97,8 @@ fn sum(s: [u32; 16], t: [u32; 16]) -> [u32; 16]
     ensures { result ≡ summed s t }
 {
     let mut out = t;
-    for i in 0..16 {
-        out[i] = std::num::wrapping_add_u32(s[i], t[i]);
+    for (i, x) in s.iter().enumerate() {
+        out[i] = x.wrapping_add(t[i]);
     }
     out
 }
@@ -150,8 +151,8 @@ fn put_lane(s: &mut [u32], b: usize, t: [u32; 16])
     requires { (b < 4) × (length s.old ≡ 64) }
     ensures { Stored b t s.old s.new }
 {
-    for j in 0..16 {
-        s[b + 4 * j] = t[j];
+    for (j, x) in t.iter().enumerate() {
+        s[b + 4 * j] = *x;
     }
 }
 
@@ -180,7 +181,7 @@ fn round_lanes(s: &mut [u32], doubles: usize)
     requires { length s.old ≡ 64 }
     ensures { Each (λ b. rounds_of doubles (lane_of b s.old)) 4 s.new }
 {
-    for i in 0..doubles {
+    for _ in 0..doubles {
         double_lanes(s);
     }
 }
@@ -190,9 +191,7 @@ fn put_block(out: &mut [u32], b: usize, words: [u32; 16])
     requires { (length out.old ≡ 64) × (b < 4) }
     ensures { Copied b words out.old out.new }
 {
-    for j in 0..16 {
-        out[16 * b + j] = words[j];
-    }
+    out[16 * b..16 * b + 16].copy_from_slice(&words);
 }
 
 // The sums of four starts and the states that their rounds made, one after the other.

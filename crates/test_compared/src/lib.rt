@@ -8,9 +8,8 @@ ghost use Rattle.test_compared.specs.Compared.{same_numbers, same_doubles, front
 pub fn same_numbers(text: &[u8], at: usize, xs: &[usize]) -> bool
     ensures { result ≡ same_numbers text.now at xs.now }
 {
-    let n = xs.len();
-    for i in 0..n {
-        if xs[i] != test_words::word_from(text, at, i) as usize {
+    for (i, x) in xs.iter().enumerate() {
+        if *x != test_words::word_from(text, at, i) as usize {
             return false;
         }
     }
@@ -20,9 +19,8 @@ pub fn same_numbers(text: &[u8], at: usize, xs: &[usize]) -> bool
 pub fn same_doubles(text: &[u8], at: usize, xs: &[f64]) -> bool
     ensures { result ≡ same_doubles text.now at xs.now }
 {
-    let n = xs.len();
-    for i in 0..n {
-        if bits::bits_of(xs[i]) != test_words::word_from(text, at, i) {
+    for (i, x) in xs.iter().enumerate() {
+        if bits::bits_of(*x) != test_words::word_from(text, at, i) {
             return false;
         }
     }
@@ -33,39 +31,29 @@ pub fn same_doubles(text: &[u8], at: usize, xs: &[f64]) -> bool
 pub fn front(m: usize) -> usize
     ensures { result ≡ front_of m }
 {
-    if m > 256 {
-        return 0;
-    }
-    8 * (m * m) + 256 * m
+    if m > 256 { 0 } else { 8 * (m * m) + 256 * m }
 }
 
 // The whole numbers there.
 fn numbers_front(m: usize) -> usize
     ensures { result ≡ numbers_front_of m }
 {
-    if m > 256 {
-        return 0;
-    }
-    320 * m
+    if m > 256 { 0 } else { 320 * m }
 }
 
 // What a working list has at i after a call that leaves its front zero: 0 there, and what it was lent with behind.
 fn left_at(i: usize, front: usize, lent: u64) -> u64
     ensures { result ≡ left_at front lent i }
 {
-    if i < front {
-        return 0;
-    }
-    lent
+    if i < front { 0 } else { lent }
 }
 
 // Whether the front of a working list is +0 and the rest 7.0, as it was lent.
 pub fn left_doubles(floats: &[f64], front: usize) -> bool
     ensures { result ≡ left_doubles floats.now front }
 {
-    let n = floats.len();
-    for i in 0..n {
-        if bits::bits_of(floats[i]) != left_at(i, front, 0x401c_0000_0000_0000) {
+    for (i, x) in floats.iter().enumerate() {
+        if bits::bits_of(*x) != left_at(i, front, 0x401c_0000_0000_0000) {
             return false;
         }
     }
@@ -76,9 +64,8 @@ pub fn left_doubles(floats: &[f64], front: usize) -> bool
 fn left_numbers(numbers: &[usize], front: usize) -> bool
     ensures { result ≡ left_numbers numbers.now front }
 {
-    let n = numbers.len();
-    for i in 0..n {
-        if numbers[i] as u64 != left_at(i, front, 999) {
+    for (i, x) in numbers.iter().enumerate() {
+        if *x as u64 != left_at(i, front, 999) {
             return false;
         }
     }
@@ -86,13 +73,11 @@ fn left_numbers(numbers: &[usize], front: usize) -> bool
 }
 
 // Whether both working lists are so after a call over m names; 0 for a call that keeps them.
+#[tactic(auto, using(std::proofs::lemmas::Bool::Decides::nat_tests), unfolding(crate::specs::Compared::left_lists))]
 pub fn left_lists(m: usize, floats: &[f64], numbers: &[usize]) -> bool
     ensures { result ≡ left_lists m floats.now numbers.now }
 {
-    if !left_doubles(floats, front(m)) {
-        return false;
-    }
-    left_numbers(numbers, numbers_front(m))
+    left_doubles(floats, front(m)) && left_numbers(numbers, numbers_front(m))
 }
 
 // How many names the zero fronts are measured by: n, or 0 where every list is kept.

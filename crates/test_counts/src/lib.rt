@@ -22,9 +22,8 @@ fn print_words(text: &[u8], at: usize, n: usize) {
 }
 
 fn print_numbers(xs: &[usize]) {
-    let n = xs.len();
-    for i in 0..n {
-        print_number(xs[i] as u64, b" ");
+    for x in xs {
+        print_number(*x as u64, b" ");
     }
 }
 
@@ -76,13 +75,11 @@ pub struct Counts {
 }
 
 // Whether a case that ends at `next` passes in a text that is n long: it is right, and does not end behind the text.
+#[tactic(auto, using(std::proofs::lemmas::Bool::Decides::nat_tests), unfolding(crate::specs::Counting::passes))]
 fn whole_and_right(right: bool, next: usize, n: usize) -> bool
     ensures { result ≡ passes right next n }
 {
-    if next > n {
-        return false;
-    }
-    right
+    next <= n && right
 }
 
 // One case more, of this kind, from `at` to `next` in a text that is n long. One that does not pass is reported.

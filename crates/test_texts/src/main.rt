@@ -25,12 +25,7 @@ fn first_of(cases: &[u8], at: usize) -> usize
     requires { (at < length cases.now) × (length cases.now ≤ 524288) }
     ensures { (result ≡ first_of cases.now at) × (at < result) × (result ≤ length cases.now) }
 {
-    let first = at + 34;
-    let end = cases.len();
-    if first > end {
-        return end;
-    }
-    first
+    (at + 34).min(cases.len())
 }
 
 // The case at `at`, of what there is of it.
@@ -53,16 +48,7 @@ fn read_case(cases: &[u8], at: usize) -> Case
 fn same_bytes(a: &[u8], b: &[u8]) -> bool
     ensures { result ≡ same_bytes a.now b.now }
 {
-    let n = a.len();
-    if n != b.len() {
-        return false;
-    }
-    for i in 0..n {
-        if a[i] != b[i] {
-            return false;
-        }
-    }
-    true
+    a == b
 }
 
 // Whether the grouping program prints this answer for the text; `out` is for what it prints.

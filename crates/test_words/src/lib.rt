@@ -5,16 +5,19 @@ ghost use Rattle.std.specs.Prelude.{◌≤◌, ◌≡◌, length};
 ghost use Rattle.test_words.specs.Words.{hex_digit_of, with_digit, value_of, word_at, word_from, size_from, doubles_from, words_from};
 
 // The value of a digit, 0 to 9 or a to f; of any other byte some value below 16.
+#[tactic(auto, using(std::proofs::lemmas::Bool::Decides::nat_tests), unfolding(crate::specs::Words::hex_digit_of))]
 fn hex_digit(b: u8) -> u64
     ensures { (result ≡ hex_digit_of b) × (result ≤ 15) }
 {
     if b < b'a' {
-        return (b % 16) as u64;
+        (b % 16) as u64
+    } else {
+        ((b % 16 + 9) % 16) as u64
     }
-    ((b % 16 + 9) % 16) as u64
 }
 
 // A value with one digit more at its end; of seventeen digits the first is lost.
+#[tactic(auto, unfolding(crate::specs::Words::with_digit))]
 fn with_digit(value: u64, b: u8) -> u64
     ensures { result ≡ with_digit value b }
 {
@@ -26,14 +29,14 @@ fn hex_value(digits: &[u8]) -> u64
     ensures { result ≡ value_of digits.now }
 {
     let mut value: u64 = 0;
-    let n = digits.len();
-    for i in 0..n {
-        value = with_digit(value, digits[i]);
+    for b in digits {
+        value = with_digit(value, *b);
     }
     value
 }
 
 // Word k of the text, of the first 200001; 0 past its end.
+#[tactic(auto, using(std::proofs::lemmas::Bool::Decides::nat_tests), unfolding(crate::specs::Words::word_at))]
 fn word(text: &[u8], k: usize) -> u64
     ensures { result ≡ word_at text.now k }
 {
@@ -49,35 +52,29 @@ fn word(text: &[u8], k: usize) -> u64
 }
 
 // The word i places after the one at `at`; 0 where one of the two is above 100000.
+#[tactic(auto, using(std::proofs::lemmas::Bool::Decides::nat_tests), unfolding(crate::specs::Words::word_from))]
 pub fn word_from(text: &[u8], at: usize, i: usize) -> u64
     ensures { result ≡ word_from text.now at i }
 {
-    if at > 100000 {
-        return 0;
-    }
-    if i > 100000 {
+    if at > 100000 || i > 100000 {
         return 0;
     }
     word(text, at + i)
 }
 
 // The same word as a size of at most `most`.
+#[tactic(auto, using(std::proofs::lemmas::Bool::Decides::nat_tests))]
 pub fn size_from(text: &[u8], at: usize, i: usize, most: usize) -> usize
     ensures { (result ≡ size_from text.now at i most) × (result ≤ most) }
 {
-    let value = word_from(text, at, i) as usize;
-    if value > most {
-        return most;
-    }
-    value
+    (word_from(text, at, i) as usize).min(most)
 }
 
 // The words from `at` on into a list: as doubles, as numbers and as draws.
 pub fn doubles(text: &[u8], at: usize, xs: &mut [f64])
     ensures { xs.new ≡ doubles_from text.now at (length xs.old) }
 {
-    let n = xs.len();
-    for i in 0..n {
+    for i in 0..xs.len() {
         xs[i] = bits::double_of(word_from(text, at, i));
     }
 }
@@ -85,8 +82,7 @@ pub fn doubles(text: &[u8], at: usize, xs: &mut [f64])
 pub fn numbers(text: &[u8], at: usize, xs: &mut [usize])
     ensures { xs.new ≡ words_from text.now at (length xs.old) }
 {
-    let n = xs.len();
-    for i in 0..n {
+    for i in 0..xs.len() {
         xs[i] = word_from(text, at, i) as usize;
     }
 }
@@ -94,8 +90,7 @@ pub fn numbers(text: &[u8], at: usize, xs: &mut [usize])
 pub fn draws(text: &[u8], at: usize, xs: &mut [u64])
     ensures { xs.new ≡ words_from text.now at (length xs.old) }
 {
-    let n = xs.len();
-    for i in 0..n {
+    for i in 0..xs.len() {
         xs[i] = word_from(text, at, i);
     }
 }

@@ -7,7 +7,10 @@ ghost use Rattle.text_writing.specs.Stores.{Wrote};
 ghost use Rattle.text_written.specs.Answers.{refusal_of, bytes_of};
 ghost use Rattle.text_answer.specs.Answer.{line_text, sizes_text, grouped_text, refused_text, room, most_names, grouping_fits, refusal_fits, written_of};
 
-use text_written::Written;
+use text_written::{ListLength, Written};
+
+// The bytes that a list to write to has at least.
+const ROOM: usize = 1024;
 
 // Each `put_` function below writes from a place on, and answers the place behind what it wrote.
 // The labels as a line, in decimal.
@@ -20,8 +23,8 @@ fn put_labels(out: &mut [u8], at: usize, labels: &[usize]) -> usize
         return text_writing::put_byte(out, at, b'\n');
     }
     let mut p = at;
-    for t in 0..n {
-        p = text_writing::put_entry(out, p, labels[t] as u64, 10, t, n);
+    for (t, label) in labels.iter().enumerate() {
+        p = text_writing::put_entry(out, p, *label as u64, 10, t, n);
     }
     p
 }
@@ -36,9 +39,8 @@ fn put_scores(out: &mut [u8], at: usize, scores: &[f64]) -> usize
         return text_writing::put_byte(out, at, b'\n');
     }
     let mut p = at;
-    for t in 0..n {
-        let b = bits::bits_of(scores[t]);
-        p = text_writing::put_entry(out, p, b, 16, t, n);
+    for (t, score) in scores.iter().enumerate() {
+        p = text_writing::put_entry(out, p, bits::bits_of(*score), 16, t, n);
     }
     p
 }
@@ -82,13 +84,7 @@ fn put_refused(out: &mut [u8], number: u64, place: u64) -> usize
 fn grouping_fits(labels: usize, scores: usize, out: usize) -> bool
     ensures { result ≡ leb labels most_names && (eqb scores labels && leb room out) }
 {
-    if labels > 12 {
-        return false;
-    }
-    if scores != labels {
-        return false;
-    }
-    out >= 1024
+    labels <= 12 && scores == labels && out >= ROOM
 }
 
 // Writes a grouping to the front of out, as three lines: sizes, labels, scores by their bits. The labels are written as
@@ -103,11 +99,10 @@ pub fn write_grouping(
     ensures { record { refused = refusal_of result; count = bytes_of result; out = out.new }
         ≡ written_of (grouping_fits labels.now scores.now out.old) (grouped_text groups draws labels.now scores.now) out.old }
 {
-    if grouping_fits(labels.len(), scores.len(), out.len()) {
-        let n = put_grouping(groups, draws, labels, scores, out);
-        return Written::Bytes(n);
+    if !grouping_fits(labels.len(), scores.len(), out.len()) {
+        return Err(ListLength);
     }
-    Written::ListLength
+    Ok(put_grouping(groups, draws, labels, scores, out))
 }
 
 // Writes a refusal to the front of out: its number and its place.
@@ -115,9 +110,8 @@ pub fn write_refusal(number: usize, place: usize, out: &mut [u8]) -> Written
     ensures { record { refused = refusal_of result; count = bytes_of result; out = out.new }
         ≡ written_of (refusal_fits out.old) (refused_text number place) out.old }
 {
-    if out.len() < 1024 {
-        return Written::ListLength;
+    if out.len() < ROOM {
+        return Err(ListLength);
     }
-    let n = put_refused(out, number as u64, place as u64);
-    Written::Bytes(n)
+    Ok(put_refused(out, number as u64, place as u64))
 }

@@ -20,8 +20,11 @@ use Rattle.partition.specs.Orders.{cut, Sized}
 use Rattle.partition.proofs.Cuts.{cut_joined, groups_few, partition_length, sized_of}
 use Rattle.round.specs.Round.{Run, done, ended}
 use Rattle.round.proofs.Runs.{Whole}
-use Rattle.onc_answers.specs.declared.Onc.{Onc}
-use Rattle.onc_answers.specs.Answers.{number_of, place_of, groups_of, read_of, answer_of}
+use Rattle.std.specs.Prelude.{Err, Ok, Result}
+use Rattle.onc_answers.specs.declared.Grouped.{Grouped}
+use Rattle.onc_answers.specs.declared.OncError.{OncError}
+use Rattle.onc_answers.specs.declared.OncError.TheVariants.{InvalidRepeat, InvalidCorrelationMatrix, TooLarge, CellCount, ListLength, Stopped}
+use Rattle.onc_answers.specs.Answers.{error_number, number_of, place_of, answer_of}
 use Rattle.onc_checks.specs.Checks.{shape_of}
 use Rattle.onc_run.specs.Run.{Lists, Outcome, run_of, ran}
 use Rattle.onc.specs.Onc.{shape, group_of}
@@ -59,6 +62,14 @@ no_stop Rounds h = omega arith
 no_stop (Short k) h = omega arith
 no_stop (DrawOutOfRange p) h = omega arith
 no_stop ClusteringFailed h = omega arith
+
+no_error : (e : OncError) → error_number e ≡ 0 → ⊥
+no_error InvalidRepeat h = omega arith
+no_error InvalidCorrelationMatrix h = omega arith
+no_error TooLarge h = omega arith
+no_error CellCount h = omega arith
+no_error ListLength h = omega arith
+no_error (Stopped s) h = no_stop s h
 
 -- the lengths are those that the call asks for
 lent_fits : (n : ℕ) (book : List Float) (l : Lists) → Lent n book l → lent_for n l ≡ true
@@ -135,27 +146,28 @@ module _ (n repeats : ℕ) (book : List Float) (draws : List ℕ) (l : Lists) (f
   called = by_number _ (group_of book n n repeats draws l) refl refuses groups
 
 -- the same of a call's answer and the lists that it leaves
-module _ (n repeats : ℕ) (book : List Float) (draws : List ℕ) (l : Lists) (a : Onc) {l' : Lists}
+module _ (n repeats : ℕ) (book : List Float) (draws : List ℕ) (l : Lists) (a : Result Grouped OncError) {l' : Lists}
     (is : record { answer = answer_of a; lists = l' } ≡ group_of book n n repeats draws l) (lent : Lent n book l) where
   fits : lent_for n l ≡ true
   fits = lent_fits n book l lent
 
-  pub refused_text_lem : {number place : ℕ} → number ≡ number_of a → place ≡ place_of a → (number ≡ 0 → ⊥) → refused_text number place ≡ book_text n repeats book draws
-  refused_text_lem e f h = rw (e, f) (subst (Refuses n repeats book draws l fits) (sym is) (refuses n repeats book draws l fits) (λ z. h (e ∙ z)))
+  pub refused_text_lem : {number place : ℕ} {e : OncError} → number ≡ number_of a → place ≡ place_of a → a ≡ Err e → refused_text number place ≡ book_text n repeats book draws
+  refused_text_lem {number} {place} {e} f p i =
+      rw (f, p) (subst (Refuses n repeats book draws l fits) (sym is) (refuses n repeats book draws l fits) (λ z. no_error e (sym (ap number_of i) ∙ z)))
 
-  told : {number : ℕ} → number ≡ number_of a → number ≡ 0 → Told n repeats book draws (record { answer = answer_of a; lists = l' })
-  told e h = subst (Groups n repeats book draws l fits) (sym is) (groups n repeats book draws l fits) (sym e ∙ h)
+  told : (g : Grouped) → a ≡ Ok g → Told n repeats book draws (record { answer = answer_of a; lists = l' })
+  told g i = subst (Groups n repeats book draws l fits) (sym is) (groups n repeats book draws l fits) (ap number_of i)
 
   -- what `write_groups` asks, and what it then writes
-  pub told_asks : {number count : ℕ} → number ≡ number_of a → number ≡ 0 → count ≡ groups_of a
-      → (length l'.order ≤ 12) × Sized (length l'.order) count l'.order l'.sizes × (length l'.scores ≡ length l'.order)
-  told_asks e h g =
-      let t = told e h in
-      let few : length l'.order ≤ 12 = omega (arith, t.long, lent.few) in (few, rw (t.long, g) t.sized, t.scored ∙ sym t.long)
+  pub told_asks : {g : Grouped} → a ≡ Ok g
+      → (length l'.order ≤ 12) × Sized (length l'.order) g.groups l'.order l'.sizes × (length l'.scores ≡ length l'.order)
+  told_asks {g} i =
+      let t = told g i in
+      let few : length l'.order ≤ 12 = omega (arith, t.long, lent.few) in (few, rw (← i) (rw t.long t.sized), rw t.long t.scored)
 
-  pub told_text : {number count read : ℕ} → number ≡ number_of a → number ≡ 0 → count ≡ groups_of a → read ≡ read_of a
-      → grouped_text count read (listed (label_of (cut count l'.sizes l'.order)) (length l'.order)) l'.scores ≡ book_text n repeats book draws
-  told_text e h g r = let t = told e h in rw (t.long, g, r) t.text
+  pub told_text : {g : Grouped} → a ≡ Ok g
+      → grouped_text g.groups g.draws (listed (label_of (cut g.groups l'.sizes l'.order)) (length l'.order)) l'.scores ≡ book_text n repeats book draws
+  told_text {g} i = let t = told g i in rw t.long (rw i at t.text)
 
 -- what is asked of the lists that `group_with` is lent
 pub lent_by : (n : ℕ) (book : List Float) (l : Lists)

@@ -7,7 +7,7 @@ ghost use Rattle.text_written.specs.Answers.{refusal_of, bytes_of};
 ghost use Rattle.text_answer.specs.Answer.{refusal_fits, written_of};
 ghost use Rattle.text_program.specs.Program.{book_text, program_of};
 
-use text_request::Request;
+use text_request::RequestError;
 use text_written::Written;
 
 // Groups a book of n names with the outputs and the lists to work in, and writes the answer.
@@ -29,21 +29,19 @@ fn group_with(
     ensures { record { refused = refusal_of result; count = bytes_of result; out = out.new }
         ≡ written_of (refusal_fits out.old) (book_text n repeats book.now draws.now) out.old }
 {
-    let a = onc::get_onc_clusters_with_draws(
+    let answer = onc::get_onc_clusters_with_draws(
         book, n, n, repeats, draws, order, sizes, scores, ordered, floats, numbers,
     );
-    let number = onc_answers::number_of(a);
-    if number != 0 {
-        return text_answer::write_refusal(number, onc_answers::place_of(a), out);
+    match answer {
+        Ok(grouped) => {
+            text_groups::write_groups(grouped.groups, grouped.draws, order, sizes, scores, out)
+        }
+        Err(_) => {
+            let number = onc_answers::number_of(answer);
+            let place = onc_answers::place_of(answer);
+            text_answer::write_refusal(number, place, out)
+        }
     }
-    text_groups::write_groups(
-        onc_answers::groups_of(a),
-        onc_answers::read_of(a),
-        order,
-        sizes,
-        scores,
-        out,
-    )
 }
 
 // Groups a book of at most 12 names and writes the answer.
@@ -55,7 +53,7 @@ fn group(book: &[f64], n: usize, repeats: usize, draws: &[u64], out: &mut [u8]) 
     let mut order = lists::buffer::<usize, 12>(0);
     let mut sizes = lists::buffer::<usize, 12>(0);
     let mut scores = lists::buffer::<f64, 12>(0.0);
-    let mut ordered = lists::filled::<f64, 144>(0.0);
+    let mut ordered = lists::buffer::<f64, 144>(0.0);
     let mut floats = lists::buffer::<f64, 4224>(0.0);
     let mut numbers = lists::buffer::<usize, 3840>(0);
     let size = n * n;
@@ -83,16 +81,13 @@ pub fn answer_to(text: &[u8], out: &mut [u8]) -> Written
     let mut cells = lists::filled::<f64, 144>(0.0);
     let mut draws = lists::filled::<u64, 1024>(0);
     match text_request::read_request(text, &mut cells, &mut draws) {
-        Request::Fault => text_answer::write_refusal(11, 0, out),
-        // never: the two lists have room for every text of the layout
-        Request::ListLength => text_answer::write_refusal(6, 0, out),
-        Request::Read {
-            names,
-            repeats,
-            draws: count,
-        } => {
+        Ok(request) => {
+            let names = request.names;
             let size = names * names;
-            group(&cells[..size], names, repeats, &draws[..count], out)
+            group(&cells[..size], names, request.repeats, &draws[..request.draws], out)
         }
+        Err(RequestError::Fault) => text_answer::write_refusal(11, 0, out),
+        // never: the two lists have room for every text of the layout
+        Err(RequestError::ListLength) => text_answer::write_refusal(6, 0, out),
     }
 }

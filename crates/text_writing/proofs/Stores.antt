@@ -1,12 +1,13 @@
 -- Bytes that are stored one after another: words, digits, numbers.
-use Prim.Native.Nat.{ℕ, zero, suc, ◌+◌, ◌-◌, ◌/◌, ◌%◌, ◌<◌}
+use Prim.Native.Nat.{ℕ, zero, suc, ◌+◌, ◌-◌, ◌/◌, ◌%◌, ◌<◌, ◌≤◌}
 use mathlib.Core.Path.{◌≡◌, refl, sym, ap, ◌∙◌}
-use mathlib.Core.List.{List, [], ◌∷◌, ◌++◌}
-use native.Mathlib.Numerals.{add-one, sub-one}
+use mathlib.Core.List.{List, [], ◌∷◌, ◌++◌, append_assoc}
+use native.Mathlib.Numerals.{sub-one}
 use native.Mathlib.Nat.{add-zero, add-suc, suc-add, ne_of_lt}
 use native.Mathlib.Omega.{arith}
-use lib.ListN.{length, set, get_or, take, length-append}
-use lib.Seq.{sets, set_comm, length-sets, take-suc, take-length}
+use lib.ListN.{length, set, take, drop, length-append}
+use Rattle.std.proofs.lemmas.List.Edits.{paste_all}
+use lib.Seq.{paste, sets, sets-eq, set_comm, length-sets}
 use Rattle.text_digits.specs.Digits.{digit_byte, digits_of, width_of, numeral}
 use Rattle.text_digits.proofs.Numerals.{length_digits}
 use Rattle.text_writing.specs.Stores.{Wrote}
@@ -44,14 +45,12 @@ wrote_length {d} {d'} {w} {p} {r} h = ap length h.stored ∙ length-sets d p w
 pub wrote_as : {d d' w : List ℕ} {p r : ℕ} (v : List ℕ) → Wrote d d' p w r → w ≡ v → Wrote d d' p v r
 wrote_as v h e = rw (← e) h
 
--- the loop that copies a word
-pub bytes_more : {d d₁ : List ℕ} {p : ℕ} (w : List ℕ) (i : ℕ) → Wrote d d₁ p (take i w) (p + i) → i < length w → Wrote d (set d₁ (p + i) (get_or w i 0)) p (take (i + 1) w) (p + (i + 1))
-bytes_more {d} {d₁} {p} w i h l =
-    rw (add-one i, take-suc w i 0 l)
-    (then h (record { stored = refl; end = omega arith }))
-
-pub bytes_all : {d d₁ : List ℕ} {p : ℕ} (w : List ℕ) (i : ℕ) → Wrote d d₁ p (take i w) (p + i) → i ≡ length w → Wrote d d₁ p w (p + length w)
-bytes_all {d} {d₁} {p} w i h e = rw (take-length w) at (rw e at h)
+-- a word that is copied is stored
+pub pasted : (p : ℕ) (l w : List ℕ) → p + length w ≤ length l → paste l p w (length w) ≡ sets l p w
+pasted p l w h =
+    paste_all l p w (length w) refl
+    ∙ sym (append_assoc (take p l) w (drop (p + length w) l))
+    ∙ sym (sets-eq w l p h)
 
 -- the loop that stores digits from the last one on: one is stored, the rest is to do
 pub digit_stored : (b i rest p : ℕ) (l : List ℕ) {g : ℕ} → 0 < i → g ≡ digit_byte (rest % b)

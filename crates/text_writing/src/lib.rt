@@ -13,20 +13,18 @@ fn places(x: u64) -> usize
     let mut k: usize = 1;
     let mut rest = x;
     while rest >= 10 {
-        rest = rest / 10;
+        rest /= 10;
         k += 1;
     }
     k
 }
 
 // How many digits a number is written with.
+#[tactic(auto, using(std::proofs::lemmas::Bool::Decides::nat_tests), unfolding(text_digits::specs::Digits::width_of))]
 fn width_of(x: u64, base: u64) -> usize
     ensures { result ≡ width_of base x }
 {
-    if base == 16 {
-        return 16;
-    }
-    places(x)
+    if base == 16 { 16 } else { places(x) }
 }
 
 // The last k digits of a number, stored from the last one on.
@@ -34,12 +32,10 @@ fn put_digits(out: &mut [u8], at: usize, x: u64, base: u64, k: usize)
     requires { (0 < base) × (base ≤ 16) × (at + k ≤ length out.old) }
     ensures { out.new ≡ sets out.old at (digits_of base k x) }
 {
-    let mut i = k;
     let mut rest = x;
-    while i > 0 {
-        i -= 1;
+    for i in (0..k).rev() {
         out[at + i] = text_digits::digit_byte(rest % base);
-        rest = rest / base;
+        rest /= base;
     }
 }
 
@@ -66,11 +62,9 @@ fn put_bytes(out: &mut [u8], at: usize, word: &[u8]) -> usize
     requires { at + length word.now ≤ length out.old }
     ensures { Wrote out.old out.new at word.now result }
 {
-    let n = word.len();
-    for i in 0..n {
-        out[at + i] = word[i];
-    }
-    at + n
+    let end = at + word.len();
+    out[at..end].copy_from_slice(word);
+    end
 }
 
 // A word, and a decimal number behind it.

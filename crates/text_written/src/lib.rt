@@ -4,20 +4,20 @@
 ghost use Rattle.std.specs.Prelude.{◌≡◌};
 ghost use Rattle.text_written.specs.Answers.{number_of, bytes_of};
 
-// How many bytes were written, or that a list's length is wrong.
+// The length of a list is wrong.
 #[derive(Drop)]
-pub enum Written {
-    Bytes(usize),
-    ListLength,
-}
+pub struct ListLength;
+
+// How many bytes were written, or that a list's length is wrong.
+pub type Written = Result<usize, ListLength>;
 
 // The table's number; 0 where the text is written.
 pub fn number_of(w: Written) -> usize
     ensures { result ≡ number_of w }
 {
     match w {
-        Written::Bytes(_n) => 0,
-        Written::ListLength => 6,
+        Ok(_) => 0,
+        Err(_) => 6,
     }
 }
 
@@ -25,8 +25,5 @@ pub fn number_of(w: Written) -> usize
 pub fn bytes_of(w: Written) -> usize
     ensures { result ≡ bytes_of w }
 {
-    match w {
-        Written::Bytes(n) => n,
-        Written::ListLength => 0,
-    }
+    w.unwrap_or(0)
 }

@@ -1,5 +1,4 @@
 use Rattle.std.proofs.lemmas.Result.{err_from_is_err_and}
-use Rattle.std.specs.Prelude.{Ok, Err}
 use Prim.Native.Nat.{ℕ}
 use mathlib.Core.Path.{◌∙◌, ap}
 use native.Mathlib.Omega.{arith}
@@ -29,7 +28,7 @@ returns-in_err-next c =
     let a = c.args in
     let new = c.labels_by.new.labels in
     let ds = seed_given (points_at a.area.now a.m) a.m a.k a.src a.draws.now in
-    let q : LabelledBy (kmeans_of (points_at a.area.now a.m) a.m a.k a.src.at ds) (seed_moved (points_at a.area.now a.m) a.m a.k a.src) a.labels.now (Err c.in_err-next.error) new = rw c.in_err-next.was at c.labels_by.ensures.labelled_by in
+    let q = rw c.in_err-next.was at c.labels_by.ensures.labelled_by in
     let y = err_from_is_err_and c.from_residual.result c.from_residual.ensures.1 in
     record {
       tried_by = rw (y.1, y.2) (candidate_refused (points_at a.area.now a.m) a.m a.k p.0.held.some (omega (arith, p.1.two)) a.src.at ds (seed_moved (points_at a.area.now a.m) a.m a.k a.src) a.labels.now new a.scores.now q);

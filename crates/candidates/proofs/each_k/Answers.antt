@@ -1,5 +1,4 @@
 use Rattle.std.proofs.lemmas.Result.{err_from_is_err_and}
-use Rattle.std.specs.Prelude.{Ok, Err}
 use Prim.Native.Nat.{◌-◌, ◌<◌, ◌≤◌, ℕ}
 use mathlib.Core.Path.{◌∙◌, ◌≡◌, ap, refl, subst, sym}
 use native.Mathlib.Omega.{arith}
@@ -59,17 +58,16 @@ returns-in_err-found c =
     let labels = c.try_k.new.labels in
     let scores = c.try_k.new.scores in
     let u = best_from l.best l.labels l.scores in
-    let w = c.in_err-found.error in
-    let q : SearchedBy (tries_from x m l.k 1 u l.here.at ds) (seed_moved x m l.k l.here) (Err w) labels scores = rw c.in_err-found.was at (turn (goal.at.returns-in_err-found c).After-try_k) in
+    let q = rw c.in_err-found.was at (turn (goal.at.returns-in_err-found c).After-try_k) in
     let end = c.groups_end-end.result in
     let h : l.k < end = c.loop-k-test.true in
     let few : l.k ≤ m = omega (arith, h, l.invariant.0, tries_few m c.requires.1) in
     let v = turn_stopped x m c.requires.0.held.some l.k end u l.here a.draws.now (omega (arith, l.invariant.1)) few h q in
     let y = err_from_is_err_and c.from_residual.result c.from_residual.ensures.1 in
     record {
-      searched_by = rw (y.1, y.2) (stopped_by (tries_from x m 2 (tries m) (best_from a.kept a.labels.now a.scores.now) a.from.at (tries_given x m 2 (tries m) a.from a.draws.now)) (repeat_moved x m a.from) w labels scores v.0 (l.invariant.7 ∙ v.1) v.2);
+      searched_by = rw (y.1, y.2) (stopped_by (tries_from x m 2 (tries m) (best_from a.kept a.labels.now a.scores.now) a.from.at (tries_given x m 2 (tries m) a.from a.draws.now)) (repeat_moved x m a.from) _ labels scores v.0 (l.invariant.7 ∙ v.1) v.2);
       area_unchanged = c.try_k.ensures.area_unchanged ∙ l.invariant.4;
-      rng_behind = tt;
+      rng_behind = rw (y.1) tt;
     }
 
 pub loop-k-preserved : goal.loop-k-preserved

@@ -1,5 +1,4 @@
 use Rattle.std.proofs.lemmas.Result.{err_from_is_err_and}
-use Rattle.std.specs.Prelude.{Ok, Err}
 use Prim.Native.Nat.{◌-◌, ◌<◌, ◌≤◌, zero-le, ℕ}
 use mathlib.Core.Path.{◌∙◌, ◌≡◌, ap, refl, subst, sym}
 use native.Mathlib.Omega.{arith}
@@ -53,11 +52,10 @@ returns-in_err-found c =
     let labels = c.each_k.new.labels in
     let scores = c.each_k.new.scores in
     let u = best_from l.best l.labels l.scores in
-    let w = c.in_err-found.error in
-    let q : SearchedBy (tries_from x m 2 (tries m) u l.here.at (tries_given x m 2 (tries m) l.here a.draws.now)) (repeat_moved x m l.here) (Err w) labels scores = rw c.in_err-found.was at (turn (goal.at.returns-in_err-found c).After-each_k) in
+    let q = rw c.in_err-found.was at (turn (goal.at.returns-in_err-found c).After-each_k) in
     let v = repeat_stopped x m c.requires.1.two l.t a.repeat u l.here a.draws.now c.loop-t-test.true q in
     let y = err_from_is_err_and c.from_residual.result c.from_residual.ensures.1 in
-    rw (y.1, y.2) (stopped_by (best_of x m a.repeat a.from.at (repeats_given x m a.repeat a.from a.draws.now)) (repeats_moved x m a.repeat a.from) w labels scores v.0 (l.invariant.5 ∙ v.1) v.2)
+    rw (y.1, y.2) (stopped_by (best_of x m a.repeat a.from.at (repeats_given x m a.repeat a.from a.draws.now)) (repeats_moved x m a.repeat a.from) _ labels scores v.0 (l.invariant.5 ∙ v.1) v.2)
 
 pub loop-t-preserved : goal.loop-t-preserved
 loop-t-preserved c =

@@ -7,23 +7,23 @@ use Rattle.choice.proofs.replaces.Goals as goal
 pub returns-then-best-stat : goal.returns-then-best-stat
 unfolding replaces
 returns-then-best-stat c =
-    let h : lt c.in-Candidate.best c.args.stat ≡ true = c.if-best-stat.true in
-    rw (c.in-Candidate.is, h) refl
+    let h : lt c.in-Some.best.stat c.args.stat ≡ true = c.if-best-stat.true in
+    rw (c.in-Some.is, h) refl
 
 pub returns-then-stat-best : goal.returns-then-stat-best
 unfolding replaces
 returns-then-stat-best c =
-    let h : lt c.in-Candidate.best c.args.stat ≡ false = c.if-best-stat.false in
-    let q : eq c.args.stat c.in-Candidate.best ≡ true = c.if-stat-best.true in
-    rw (c.in-Candidate.is, h, q) refl
+    let h : lt c.in-Some.best.stat c.args.stat ≡ false = c.if-best-stat.false in
+    let q : eq c.args.stat c.in-Some.best.stat ≡ true = c.if-stat-best.true in
+    rw (c.in-Some.is, h, q) refl
 
-pub returns-in-Nothing : goal.returns-in-Nothing
+pub returns-in-None : goal.returns-in-None
 unfolding neg
-returns-in-Nothing c = rw (c.infinity.ensures, c.in-Nothing.is) refl
+returns-in-None c = rw (c.infinity.ensures, c.in-None.is) refl
 
 pub returns-else-stat-best : goal.returns-else-stat-best
 unfolding replaces
 returns-else-stat-best c =
-    let h : lt c.in-Candidate.best c.args.stat ≡ false = c.if-best-stat.false in
-    let q : eq c.args.stat c.in-Candidate.best ≡ false = c.if-stat-best.false in
-    rw (c.in-Candidate.is, h, q) refl
+    let h : lt c.in-Some.best.stat c.args.stat ≡ false = c.if-best-stat.false in
+    let q : eq c.args.stat c.in-Some.best.stat ≡ false = c.if-stat-best.false in
+    rw (c.in-Some.is, h, q) refl

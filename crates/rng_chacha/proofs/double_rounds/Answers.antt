@@ -1,11 +1,11 @@
-use Rattle.std.proofs.Common.{refl, add-one, arith}
+use Rattle.std.proofs.Common.{refl, add-one}
 use Rattle.rng_chacha.specs.ChaCha.{rounds_of}
 use Rattle.rng_chacha.proofs.double_rounds.Goals as goal
 
-pub loop-i-init : goal.loop-i-init
+pub loop-init : goal.loop-init
 unfolding rounds_of
-loop-i-init c = (refl, omega arith)
+loop-init c = refl
 
-pub loop-i-preserved : goal.loop-i-preserved
+pub loop-preserved : goal.loop-preserved
 unfolding rounds_of
-loop-i-preserved c = (rw (c.diagonal_round-t.ensures, c.column_round.ensures, add-one, c.loop-i.invariant.0), omega arith)
+loop-preserved c = rw (c.diagonal_round-t.ensures, c.column_round.ensures, add-one, c.loop.invariant)

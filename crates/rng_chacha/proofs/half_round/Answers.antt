@@ -3,4 +3,4 @@ use Rattle.rng_chacha.proofs.half_round.Goals as goal
 
 pub returns : goal.returns
 unfolding half_of
-returns c = rw (c.rotate_left-b.ensures, c.wrapping_add_u32-c.ensures.value, c.rotate_left-d.ensures, c.wrapping_add_u32-a.ensures.value)
+returns c = rw (c.rotate_left-b.ensures, c.rotate_left-d.ensures)

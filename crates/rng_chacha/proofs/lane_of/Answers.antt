@@ -5,13 +5,13 @@ use Rattle.rng_chacha.proofs.lane_of.Goals as goal
 
 pub loop-j-init : goal.loop-j-init
 unfolding writes
-loop-j-init c = (omega arith, c.requires.0, c.requires.1, c.buffer-t.ensures, refl)
+loop-j-init c = (c.buffer-t.ensures, refl)
 
 pub loop-j-preserved : goal.loop-j-preserved
 loop-j-preserved c =
     let v = c.loop-j.invariant in
-    (omega arith, v.1, v.2, simp length-set v.3, writes_one _ _ _ v.4 refl)
+    (simp length-set v.0, writes_one _ _ _ v.1 refl)
 
 pub returns : goal.returns
 unfolding lane_of
-returns c = writes_done 0 _ _ _ _ c.loop-j.invariant.4 (omega (arith, c.loop-j.invariant.0)) c.buffer-t.ensures
+returns c = writes_done 0 _ _ _ _ c.loop-j.invariant.1 (omega arith) c.buffer-t.ensures

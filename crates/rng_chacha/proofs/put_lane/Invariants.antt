@@ -2,4 +2,4 @@ use Rattle.rng_chacha.proofs.Lanes.{Storing}
 use Rattle.rng_chacha.proofs.put_lane.Given as goal
 
 abbrev pub invariant-loop-j : goal.invariant-loop-j
-invariant-loop-j l = Storing l.b l.j l.t l.initial.s l.s
+invariant-loop-j l = Storing l.b l.j l.fn.t l.initial.s l.s

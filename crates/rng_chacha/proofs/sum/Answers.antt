@@ -5,11 +5,11 @@ use Rattle.rng_chacha.proofs.sum.Goals as goal
 
 pub loop-i-init : goal.loop-i-init
 unfolding writes
-loop-i-init c = (search rules, search rules, search rules, search rules, refl)
+loop-i-init c = (search rules, search rules, refl)
 
 pub loop-i-preserved : goal.loop-i-preserved
-loop-i-preserved c = (omega arith, simp length-set (search rules), search rules, search rules, writes_one _ _ _ c.loop-i.invariant.4 c.wrapping_add_u32.ensures.value)
+loop-i-preserved c = (simp length-set (search rules), search rules, writes_one _ _ _ c.loop-i.invariant.2 refl)
 
 pub returns : goal.returns
 unfolding summed
-returns c = writes_done 0 _ _ _ _ c.loop-i.invariant.4 (omega arith) c.loop-i.invariant.3
+returns c = writes_done 0 _ _ _ _ c.loop-i.invariant.2 (omega arith) c.loop-i.invariant.1

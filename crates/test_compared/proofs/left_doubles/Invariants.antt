@@ -1,8 +1,6 @@
-use Prim.Native.Nat.{◌≤◌}
 use mathlib.Core.Path.{◌≡◌}
 use mathlib.Core.Bool.{true}
 use lib.Dec.{eqb}
-use lib.ListN.{length}
 use Rattle.lists.specs.Lists.{cells}
 use Rattle.lists.specs.Sums.{all_to}
 use Rattle.bits.specs.Bits.{bits_of}
@@ -10,4 +8,4 @@ use Rattle.test_compared.specs.Compared.{left_at, seven_bits}
 use Rattle.test_compared.proofs.left_doubles.Given as goal
 
 abbrev pub invariant-loop-i : goal.invariant-loop-i
-invariant-loop-i l = (l.n ≡ length l.floats) × (l.i ≤ l.n) × (all_to (λ k. eqb (bits_of (cells l.floats k)) (left_at l.front seven_bits k)) l.i ≡ true)
+invariant-loop-i l = all_to (λ k. eqb (bits_of (cells l.floats k)) (left_at l.front seven_bits k)) l.i ≡ true

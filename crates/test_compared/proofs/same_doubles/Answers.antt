@@ -1,7 +1,6 @@
 use mathlib.Core.Path.{◌≡◌, refl, sym}
 use native.Mathlib.Omega.{arith}
 use lib.ListN.{length}
-use borrow.Author.Rules.{rules}
 use Rattle.lists.specs.Sums.{all_to}
 use Rattle.lists.proofs.Sums.{all_more, all_fails}
 use Rattle.test_words.proofs.Values.{differ_at, same_at}
@@ -10,15 +9,15 @@ use Rattle.test_compared.proofs.same_doubles.Goals as goal
 
 pub loop-i-init : goal.loop-i-init
 unfolding all_to
-loop-i-init c = (refl, search rules, refl)
+loop-i-init c = refl
 
 pub returns-then-bits_of-word_from : goal.returns-then-bits_of-word_from
 unfolding same_doubles
 returns-then-bits_of-word_from c = all_fails _ _ c.loop-i.i (omega arith) (differ_at c.bits_of.ensures c.word_from.ensures c.if-bits_of-word_from.true)
 
 pub loop-i-preserved : goal.loop-i-preserved
-loop-i-preserved c = (refl, omega arith, all_more _ _ c.loop-i.invariant.2 (same_at c.bits_of.ensures c.word_from.ensures c.if-bits_of-word_from.false))
+loop-i-preserved c = all_more _ _ c.loop-i.invariant (same_at c.bits_of.ensures c.word_from.ensures c.if-bits_of-word_from.false)
 
 pub returns : goal.returns
 unfolding same_doubles
-returns c = let e : c.loop-i.i ≡ length c.args.xs.now = omega arith in sym (rw e at c.loop-i.invariant.2)
+returns c = let e : c.loop-i.i ≡ length c.args.xs.now = omega arith in sym (rw e at c.loop-i.invariant)

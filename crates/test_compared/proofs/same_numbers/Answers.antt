@@ -9,15 +9,15 @@ use Rattle.test_compared.proofs.same_numbers.Goals as goal
 
 pub loop-i-init : goal.loop-i-init
 unfolding all_to
-loop-i-init c = (refl, omega arith, refl)
+loop-i-init c = refl
 
-pub returns-then-xs-i : goal.returns-then-xs-i
+pub returns-then-x-word_from : goal.returns-then-x-word_from
 unfolding same_numbers
-returns-then-xs-i c = all_fails _ _ c.loop-i.i (omega arith) (differ_at refl c.word_from.ensures c.if-xs-i.true)
+returns-then-x-word_from c = all_fails _ _ c.loop-i.i (omega arith) (differ_at refl c.word_from.ensures c.if-x-word_from.true)
 
 pub loop-i-preserved : goal.loop-i-preserved
-loop-i-preserved c = (refl, omega arith, all_more _ _ c.loop-i.invariant.2 (same_at refl c.word_from.ensures c.if-xs-i.false))
+loop-i-preserved c = all_more _ _ c.loop-i.invariant (same_at refl c.word_from.ensures c.if-x-word_from.false)
 
 pub returns : goal.returns
 unfolding same_numbers
-returns c = let e : c.loop-i.i ≡ length c.args.xs.now = omega arith in sym (rw e at c.loop-i.invariant.2)
+returns c = let e : c.loop-i.i ≡ length c.args.xs.now = omega arith in sym (rw e at c.loop-i.invariant)

@@ -1,16 +1,14 @@
 use mathlib.Core.Path.{refl}
 use native.Mathlib.Omega.{arith}
-use lib.ListN.{length-set}
-use borrow.Author.Rules.{rules}
 use Rattle.lists.proofs.Listed.{writes, writes_one, writes_done}
 use Rattle.test_words.proofs.draws.Goals as goal
 
 pub loop-i-init : goal.loop-i-init
 unfolding writes
-loop-i-init c = (refl, search rules, refl, refl)
+loop-i-init c = refl
 
 pub loop-i-preserved : goal.loop-i-preserved
-loop-i-preserved c = (search rules, search rules, simp length-set (search rules), writes_one _ _ _ c.loop-i.invariant.3 c.word_from.ensures)
+loop-i-preserved c = writes_one _ _ _ c.loop-i.invariant c.word_from.ensures
 
 pub returns : goal.returns
-returns c = writes_done 0 _ _ _ _ c.loop-i.invariant.3 (omega arith) refl
+returns c = writes_done 0 _ _ _ _ c.loop-i.invariant (omega arith) refl

@@ -1,12 +1,11 @@
 use mathlib.Core.Path.{refl}
-use borrow.Author.Rules.{rules}
 use Rattle.test_words.specs.Words.{value_to}
 use Rattle.test_words.proofs.Values.{value_more}
 use Rattle.test_words.proofs.hex_value.Goals as goal
 
-pub loop-i-init : goal.loop-i-init
+pub loop-b-init : goal.loop-b-init
 unfolding value_to
-loop-i-init c = (refl, search rules, refl)
+loop-b-init c = refl
 
-pub loop-i-preserved : goal.loop-i-preserved
-loop-i-preserved c = (search rules, search rules, value_more _ _ c.loop-i.invariant.2 c.with_digit-value.ensures)
+pub loop-b-preserved : goal.loop-b-preserved
+loop-b-preserved c = value_more _ _ c.loop-b.invariant c.with_digit-value.ensures

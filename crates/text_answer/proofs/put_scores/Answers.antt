@@ -13,7 +13,7 @@ pub loop-t-init : goal.loop-t-init
 loop-t-init c = line_starts 16 _ _ _ _ (sym (length-map c.args.scores.now bits_of))
 
 pub loop-t-preserved : goal.loop-t-preserved
-loop-t-preserved c = line_more c.loop-t.invariant c.loop-t-test.true (c.bits_of-b.ensures ∙ sym (score_at_lem c.args.scores.now c.loop-t.t c.loop-t-test.true)) c.put_entry-p.ensures
+loop-t-preserved c = line_more c.loop-t.invariant c.loop-t-test.true (c.bits_of.ensures ∙ sym (score_at_lem c.args.scores.now c.loop-t.t c.loop-t-test.true)) c.put_entry-p.ensures
 
 pub returns : goal.returns
 returns c = line_ends c.loop-t.invariant c.loop-t-test.false c.if-n-eq0.false

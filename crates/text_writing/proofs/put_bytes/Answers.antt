@@ -1,8 +1,14 @@
-use borrow.Author.Rules.{rules}
-use mathlib.Core.Path.{refl}
-use lib.ListN.{length-set}
-use Rattle.text_writing.proofs.Stores.{bytes_more}
+use mathlib.Core.Path.{◌∙◌, refl}
+use native.Mathlib.Omega.{arith}
+use Rattle.std.proofs.lemmas.Slice.{put_mid-paste}
+use Rattle.text_writing.proofs.Stores.{pasted}
 use Rattle.text_writing.proofs.put_bytes.Goals as goal
 
-pub loop-i-preserved : goal.loop-i-preserved
-loop-i-preserved c = (refl, search rules, simp length-set c.loop-i.invariant.2, bytes_more _ _ c.loop-i.invariant.3 c.loop-i-test.true)
+pub returns : goal.returns
+returns c =
+    record {
+      stored =
+          put_mid-paste c.args.at _ c.args.out.now _ c.args.word.now _ c.copy_from_slice.ensures.after (omega arith) refl
+          ∙ pasted c.args.at c.args.out.now c.args.word.now c.requires;
+      end = refl;
+    }
