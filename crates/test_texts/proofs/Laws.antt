@@ -1,15 +1,18 @@
 -- The cases of a file of recorded texts. Assumes nothing.
-use Prim.Native.Nat.{ℕ, ◌+◌, ◌-◌, ◌≤◌}
-use mathlib.Core.Path.{◌≡◌, ◌∙◌, ap}
-use mathlib.Core.Bool.{Bool}
-use mathlib.Core.List.{List}
+use Prim.Native.Nat.{ℕ, zero, suc, ◌+◌, ◌-◌, ◌≤◌}
+use mathlib.Core.Path.{◌≡◌, refl, sym, ◌∙◌, ap}
+use mathlib.Core.Bool.{Bool, true, false, ◌&&◌}
+use mathlib.Core.List.{List, [], ◌∷◌}
+use Rattle.std.proofs.Math.Dec.{eqb-suc-suc, eqb-suc-zero, eqb-zero-suc}
 use native.Mathlib.Omega.{arith}
+use lib.Dec.{eqb}
 use lib.ListN.{length, take}
-use Rattle.lists.specs.Lists.{part}
+use lib.Pointwise.{pointwise}
+use Rattle.lists.specs.Lists.{numbers, part}
+use Rattle.lists.specs.Sums.{all_to}
 use Rattle.lists.proofs.Parts.{tail_is}
 use Rattle.test_words.specs.Words.{size_from}
-use Rattle.text_written.specs.declared.Written.{Written}
-use Rattle.text_written.specs.Answers.{refusal_of, bytes_of}
+use Rattle.text_written.specs.Answers.{Written, refusal_of, bytes_of}
 use Rattle.text_answer.specs.Answer.{room, refusal_fits, Writing, written_of}
 use Rattle.text_answer.proofs.Front.{in_front, refusal_fits_lem}
 use Rattle.text_program.specs.Program.{program_of}
@@ -22,6 +25,42 @@ pub case_is : (s : List ℕ) (at : ℕ) {first text answer : ℕ} → at ≤ len
     → answer ≡ size_from (part at (length s - at) s) 0 1 (length s - first - text) → ◌≡◌ {A = Case} (record { first = first; text = text; answer = answer }) (case_at s at)
 unfolding case_at text_length answer_length
 case_is s at {first} {text} {answer} h f t a = rw (a, t, f, tail_is at s h)
+
+-- ---- two texts
+
+and_true : (a : Bool) → a ≡ a && true
+and_true true = refl
+and_true false = refl
+
+and_later : (a b c : Bool) → (a && b) && c ≡ a && (b && c)
+and_later true b c = refl
+and_later false b c = refl
+
+and_first : (a b c : Bool) → a && (b && c) ≡ b && (a && c)
+and_first true true c = refl
+and_first true false c = refl
+and_first false true c = refl
+and_first false false c = refl
+
+-- a test at each place, the first place by itself
+all_first : (p : ℕ → Bool) (n : ℕ) → all_to p (suc n) ≡ p 0 && all_to (λ i. p (suc i)) n
+unfolding all_to
+all_first p zero = and_true (p 0)
+all_first p (suc n) = ap (λ (b : Bool). b && p (suc n)) (all_first p n) ∙ and_later (p 0) (all_to (λ i. p (suc i)) n) (p (suc n))
+
+-- the library's test of two texts
+pub same_is : (a b : List ℕ) → pointwise eqb a b ≡ same_bytes a b
+unfolding same_bytes all_to
+same_is [] [] = refl
+same_is [] (y ∷ ys) = rw (eqb-zero-suc (length ys))
+same_is (x ∷ xs) [] = rw (eqb-suc-zero (length xs))
+same_is (x ∷ xs) (y ∷ ys) =
+    ap (λ (b : Bool). eqb x y && b) (same_is xs ys)
+    ∙ and_first (eqb x y) (eqb (length xs) (length ys)) (all_to (λ i. eqb (numbers xs i) (numbers ys i)) (length xs))
+    ∙ ap (λ (b : Bool). b && (eqb x y && all_to (λ i. eqb (numbers xs i) (numbers ys i)) (length xs))) (sym (eqb-suc-suc (length xs) (length ys)))
+    ∙ ap (λ (b : Bool). eqb (suc (length xs)) (suc (length ys)) && b) (sym (all_first (λ i. eqb (numbers (x ∷ xs) i) (numbers (y ∷ ys) i)) (length xs)))
+
+-- ---- what is printed
 
 -- what is printed for a text stands in front of a list with room for it
 pub record Printed (n : ℕ) (out text : List ℕ) : Type 0 where

@@ -24,7 +24,7 @@ use Rattle.std.specs.Prelude.{Err, Ok, Result}
 use Rattle.onc_answers.specs.declared.Grouped.{Grouped}
 use Rattle.onc_answers.specs.declared.OncError.{OncError}
 use Rattle.onc_answers.specs.declared.OncError.TheVariants.{InvalidRepeat, InvalidCorrelationMatrix, TooLarge, CellCount, ListLength, Stopped}
-use Rattle.onc_answers.specs.Answers.{error_number, number_of, place_of, answer_of}
+use Rattle.onc_answers.specs.Answers.{error_number, number_of, place_of, groups_of, answer_of}
 use Rattle.onc_checks.specs.Checks.{shape_of}
 use Rattle.onc_run.specs.Run.{Lists, Outcome, run_of, ran}
 use Rattle.onc.specs.Onc.{shape, group_of}
@@ -163,7 +163,7 @@ module _ (n repeats : ℕ) (book : List Float) (draws : List ℕ) (l : Lists) (a
       → (length l'.order ≤ 12) × Sized (length l'.order) g.groups l'.order l'.sizes × (length l'.scores ≡ length l'.order)
   told_asks {g} i =
       let t = told g i in
-      let few : length l'.order ≤ 12 = omega (arith, t.long, lent.few) in (few, rw (← i) (rw t.long t.sized), rw t.long t.scored)
+      let few : length l'.order ≤ 12 = omega (arith, t.long, lent.few) in (few, rw (t.long, ← ap groups_of i) t.sized, rw t.long t.scored)
 
   pub told_text : {g : Grouped} → a ≡ Ok g
       → grouped_text g.groups g.draws (listed (label_of (cut g.groups l'.sizes l'.order)) (length l'.order)) l'.scores ≡ book_text n repeats book draws

@@ -6,10 +6,9 @@ use native.Mathlib.Omega.{arith}
 use lib.ListN.{length}
 use lib.Seq.{length-take-le}
 use Rattle.text_program.specs.Program.{program_of}
-use Rattle.text_written.specs.Answers.{bytes_of, refusal_of}
+use Rattle.text_written.specs.Answers.{Written, bytes_of, refusal_of}
 use Rattle.text_answer.specs.Answer.{Writing, refusal_fits, written_of}
 use Rattle.text_answer.proofs.Front.{in_front, refusal_fits_lem}
-use Rattle.text_written.specs.declared.Written.{Written}
 use Rattle.grouping.proofs.respond.Goals as goal
 
 room : (old : List ℕ) → 4096 ≡ length old → refusal_fits old ≡ true

@@ -8,7 +8,7 @@ use Rattle.text_program.proofs.group_with.Goals as goal
 use Rattle.text_program.proofs.group_with.Goals.{Start}
 
 -- the lists as they were lent
-lists_of : Start → Lists
+abbrev lists_of : Start → Lists
 lists_of c = record { order = c.args.order.now; sizes = c.args.sizes.now; scores = c.args.scores.now; ordered = c.args.ordered.now; floats = c.args.floats.now; numbers = c.args.numbers.now }
 
 lent : (c : Start) → Lent c.args.n c.args.book.now (lists_of c)
