@@ -84,7 +84,13 @@ pub fn answer_to(text: &[u8], out: &mut [u8]) -> Written
         Ok(request) => {
             let names = request.names;
             let size = names * names;
-            group(&cells[..size], names, request.repeats, &draws[..request.draws], out)
+            group(
+                &cells[..size],
+                names,
+                request.repeats,
+                &draws[..request.draws],
+                out,
+            )
         }
         Err(RequestError::Fault) => text_answer::write_refusal(11, 0, out),
         // never: the two lists have room for every text of the layout
