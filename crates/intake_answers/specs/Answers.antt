@@ -4,6 +4,7 @@ use Rattle.refusals.specs.Table.{Refusal}
 use Rattle.intake_answers.specs.declared.IntakeError.{IntakeError}
 use Rattle.intake_answers.specs.declared.IntakeError.TheVariants.{InvalidCorrelationMatrix, TooLarge, CellCount, Range, Diagonal, Mirror}
 
+-- a proper book, or why it is none
 abbrev pub Intake : Type 0
 Intake = Result (Unit {0}) IntakeError
 
