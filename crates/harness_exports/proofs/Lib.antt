@@ -1,3 +1,2 @@
 -- Laws of what the harness gets.
 pub mod Reported
-pub mod Next

@@ -10,7 +10,8 @@ use lib.Ieee.{Float}
 use Rattle.lists.proofs.Tests.{impossible}
 use Rattle.refusals.specs.Table.{refusal}
 use Rattle.refusals.proofs.Laws.{accepted}
-use Rattle.kmeans_answers.specs.declared.Kmeans.{Kmeans}
+use Rattle.std.proofs.Common.{Result}
+use Rattle.kmeans_answers.specs.declared.KmeansError.{KmeansError}
 use Rattle.kmeans_answers.specs.Answers.{number_of, place_of, refusal_of, read_of}
 use Rattle.kmeans_answers.specs.Leaf.{Leaf}
 use Rattle.exports_reports.proofs.Written.{places_are, refused_as}
@@ -21,7 +22,7 @@ pub three_places : (cells n places : ℕ) {r : ℕ} → r ≡ cond (eqb places 3
 three_places cells n places e z = places_are 3 places (λ q. impossible (accepted cells n n false 0 0 (ap (λ (x : ℕ). eqb x 0) q)).fitting) e z
 
 module _ (cells n : ℕ) (leaf : Leaf) (answer out : List ℕ) (floats : List Float) (numbers : List ℕ) where
-  pub reported : (a : Kmeans) {r : ℕ} {answer' out' numbers' : List ℕ} {floats' : List Float} → length answer ≡ 3
+  pub reported : (a : Result ℕ KmeansError) {r : ℕ} {answer' out' numbers' : List ℕ} {floats' : List Float} → length answer ≡ 3
       → record { answer = refusal_of a; read = read_of a; out = out'; floats = floats'; numbers = numbers' } ≡ leaf → r ≡ number_of a → answer' ≡ number_of a ∷ place_of a ∷ read_of a ∷ []
       → record { number = r; answer = answer'; out = out'; floats = floats'; numbers = numbers' } ≡ reported_of cells n leaf answer out floats numbers
   unfolding reported_of

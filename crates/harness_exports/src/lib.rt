@@ -25,9 +25,6 @@ ghost use Rattle.silhouette_areas.specs.Scoring.{scores_of, Prepared};
 ghost use Rattle.harness_exports.specs.Reported.{reported_of};
 ghost use Rattle.harness_exports.specs.Next.{next_after};
 
-use kmeans::Clustered;
-use plusplus::Seeded;
-
 #[unsafe(no_mangle)]
 pub extern "C" fn onc_sqrt(x: f64) -> f64
     ensures { result ≡ root x }
@@ -133,8 +130,8 @@ pub extern "C" fn onc_labels_in(
         × (take (4 * (m * m)) area.new ≡ take (4 * (m * m)) area.old) }
 {
     match kmeans::labels_in(area, m, k, draws, at, labels) {
-        Clustered::Stopped(_stop) => 0,
-        Clustered::Done(next, _ended) => next,
+        Ok(clustered) => clustered.at,
+        Err(_) => 0,
     }
 }
 
@@ -162,10 +159,7 @@ pub extern "C" fn onc_seed_in(
     ensures { (result ≡ next_after (at + seeding_of (length centres.old)) (seeding (squared_at (points_at area.now m) m) m (length centres.old) at (drop at draws.now)))
         × seeds.CentresAfter (seeding (squared_at (points_at area.now m) m) m (length centres.old) at (drop at draws.now)) centres.new }
 {
-    match kmeans::seed_in(area, m, draws, at, centres, weights) {
-        Seeded::Stopped(_stop) => 0,
-        Seeded::Done(next) => next,
-    }
+    kmeans::seed_in(area, m, draws, at, centres, weights).unwrap_or(0)
 }
 
 // The labels by Lloyd's passes from the centres. Inner form. The fifth area is left with anything.
