@@ -20,7 +20,7 @@ use Rattle.partition.specs.Orders.{sizes_of}
 use Rattle.candidates.specs.declared.Searched.{Searched}
 use Rattle.candidates.specs.Candidates.{Best, best_of}
 use Rattle.candidates.specs.Made.{repeats_given, repeats_moved}
-use Rattle.candidates.specs.Steps.{kept_by, SearchedBy}
+use Rattle.candidates.specs.Steps.{kept_by, searched, SearchedBy}
 use Rattle.base.specs.declared.Based.{Based}
 use Rattle.base.specs.Base.{based, BasedBy}
 use Rattle.silhouette_areas.proofs.Laws.{book_points}

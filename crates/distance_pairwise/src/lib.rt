@@ -59,10 +59,7 @@ fn measure_book(book: &[f64], n: usize, rows: &[usize], out: &mut [f64], floats:
 fn lists_fit(m: usize, out: usize, floats: usize) -> bool
     ensures { m ≤ 256 → result ≡ lists_fit m out floats }
 {
-    if !refusals::is_square(out, m) {
-        return false;
-    }
-    refusals::has_room(floats, m)
+    refusals::is_square(out, m) && refusals::has_room(floats, m)
 }
 
 // The first row of the table that applies.
@@ -84,12 +81,9 @@ fn check_lists(
 pub fn pairwise_distances(points: &[f64], n: usize, out: &mut [f64], floats: &mut [f64]) -> Answer
     ensures { record { answer = refusal_of result; out = out.new; floats = floats.new } ≡ pairwise_distances points.now n out.old floats.old }
 {
-    let answer = check_lists(points.len(), n, n, out.len(), floats.len(), 0, 0);
-    if refusals::number_of(answer) != 0 {
-        return answer;
-    }
+    check_lists(points.len(), n, n, out.len(), floats.len(), 0, 0)?;
     measure_points(points, n, out, floats);
-    answer
+    Ok(())
 }
 
 // The same of the distances of the book that the rows make.
@@ -104,10 +98,7 @@ pub fn pairwise_distances_through(
 {
     let m = rows.len();
     let bad = lists::first_from(n, rows);
-    let answer = check_lists(book.len(), n, m, out.len(), floats.len(), bad, m);
-    if refusals::number_of(answer) != 0 {
-        return answer;
-    }
+    check_lists(book.len(), n, m, out.len(), floats.len(), bad, m)?;
     measure_book(book, n, rows, out, floats);
-    answer
+    Ok(())
 }

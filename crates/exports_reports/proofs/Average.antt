@@ -1,12 +1,13 @@
 -- The answer of a statistic in its lists, or the refusal of lists that do not fit.
 use Prim.Native.Nat.{ℕ}
-use mathlib.Core.Path.{◌≡◌, refl}
+use mathlib.Core.Path.{◌≡◌, refl, ◌∙◌, ap}
 use mathlib.Core.List.{List, [], ◌∷◌, ◌++◌}
 use native.Mathlib.Omega.{arith}
 use borrow.Author.Tests.{eq-eqb, ne_eqb}
 use lib.ListN.{length, set, drop}
 use lib.Ieee.{Float}
-use Rattle.stats.specs.Average.{Averaged}
+use Rattle.std.proofs.Common.{Option, Ok}
+use Rattle.stats.specs.Average.{Average, Averaged}
 use Rattle.exports_reports.specs.Average.{number_without, average_reported}
 
 pub two_written : (xs : List ℕ) (a b : ℕ) → length xs ≡ 2 → set (set xs 0 a) 1 b ≡ a ∷ b ∷ []
@@ -20,6 +21,10 @@ pub one_written : (xs : List Float) (a : Float) → length xs ≡ 1 → set xs 0
 one_written [] a h = absurd (omega arith)
 one_written (x ∷ []) a h = refl
 one_written (x ∷ y ∷ ys) a h = absurd (omega arith)
+
+-- an answer whose option is known
+pub with_option : (a : Average) (o p : Option Float) → a ≡ Ok o → o ≡ p → a ≡ Ok p
+with_option a o p e f = e ∙ ap Ok f
 
 module _ (a : Averaged) (answer : List ℕ) (average : List Float) where
   -- an average list of another length than one

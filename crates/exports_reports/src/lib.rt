@@ -24,7 +24,10 @@ pub fn grouping_refused(
     if places == 4 {
         return 0;
     }
-    onc_answers::number_of(onc_checks::check(repeat, rows, cols, cells, false))
+    match onc_checks::check(repeat, rows, cols, cells, false) {
+        Ok(()) => 0,
+        Err(e) => onc_answers::number_of(Err(e)),
+    }
 }
 
 // The number, the place, the groups and the draws read, in a list of four; the number.
@@ -55,9 +58,8 @@ fn average_refused(a: Average) -> usize
     ensures { result ≡ number_without (averaged_of a) }
 {
     match a {
-        Average::Value(_x) => 6,
-        Average::Empty => 6,
-        Average::TooMany => 4,
+        Ok(_) => 6,
+        Err(_) => 4,
     }
 }
 
@@ -66,19 +68,16 @@ pub fn report_average(a: Average, average: &mut [f64], answer: &mut [usize]) -> 
     ensures { record { number = result; answer = answer.new; average = average.new }
         ≡ average_reported (averaged_of a) answer.old average.old }
 {
-    if average.len() != 1 {
-        return average_refused(a);
-    }
-    if answer.len() != 2 {
+    if average.len() != 1 || answer.len() != 2 {
         return average_refused(a);
     }
     match a {
-        Average::Value(x) => {
+        Ok(Some(x)) => {
             average[0] = x;
             report_two(0, 1, answer)
         }
-        Average::Empty => report_two(0, 0, answer),
-        Average::TooMany => report_two(4, 0, answer),
+        Ok(None) => report_two(0, 0, answer),
+        Err(_) => report_two(4, 0, answer),
     }
 }
 

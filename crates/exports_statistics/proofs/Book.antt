@@ -9,8 +9,7 @@ use lib.ListN.{length}
 use Rattle.lists.proofs.Tests.{impossible}
 use Rattle.refusals.specs.Table.{Refusal, refused}
 use Rattle.refusals.proofs.Laws.{accepted, unless_none}
-use Rattle.intake_answers.specs.declared.Intake.{Intake}
-use Rattle.intake_answers.specs.Answers.{number_of, place_of, refusal_of}
+use Rattle.intake_answers.specs.Answers.{Intake, number_of, place_of, refusal_of}
 use Rattle.exports_reports.proofs.Written.{places_are, refused_as}
 use Rattle.exports_reports.specs.Book.{book_shape, book_reported}
 

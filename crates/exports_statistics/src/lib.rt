@@ -71,10 +71,7 @@ pub extern "C" fn onc_check_book(
 pub extern "C" fn onc_draws_for(names: usize) -> u64
     ensures { result ≡ draws_for names }
 {
-    if names < 2 {
-        return 0;
-    }
-    if names > 256 {
+    if names < 2 || names > 256 {
         return 0;
     }
     draws::draws_for(names)

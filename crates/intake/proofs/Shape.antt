@@ -3,14 +3,19 @@ use Prim.Native.Nat.{ℕ, ◌*◌, ◌≤◌}
 use mathlib.Core.Path.{◌≡◌, refl, sym, ap, ◌∙◌}
 use mathlib.Core.Bool.{Bool, true, false}
 use mathlib.Core.List.{List}
-use native.Mathlib.Omega.{arith}
 use borrow.Author.Tests.{eq-eqb, ne_eqb}
 use lib.Dec.{ltb}
 use lib.IntN.{ℤ}
 use lib.ListN.{length}
-use Rattle.refusals.specs.Table.{Refusal, none, refused, whenever, unless, refusal, or_else}
-use Rattle.refusals.proofs.Laws.{accepted, unless_none}
-use Rattle.intake.specs.Intake.{fault_of, shape_of, intake_of}
+use mathlib.Core.Logic.{by_cases}
+use native.Mathlib.Decide.{ℕ_discrete}
+use Rattle.std.proofs.Common.{Ok, Err}
+use Rattle.std.specs.Result.{MatchResult, IsErrAnd}
+use Rattle.refusals.specs.Table.{refusal_of as shapeRefusalOf, Answer, number_of, Refusal, none, refused, whenever, unless, refusal, or_else}
+use Rattle.refusals.proofs.Laws.{accepted, err_number, unless_none}
+use Rattle.intake_answers.specs.declared.IntakeError.{IntakeError}
+use Rattle.intake_answers.specs.Answers.{Intake, refusal_of}
+use Rattle.intake.specs.Intake.{fault_of, shape_of, shape_number, intake_of}
 
 -- what holds of both refusals holds of the row that has them
 module _ (P : Refusal → Type 0) (q below : Refusal) (p : P q) (b : P below) where
@@ -62,10 +67,6 @@ module _ (cells : List ℤ) (rows cols : ℕ) where
   unfolding intake_of
   shape_refuses e h = above (shape_of rows cols (length cells) true) (fault_of cells rows) (shape_plain rows cols (length cells)).placeless e h
 
-  pub shape_fifth : {k : ℕ} → (shape_of rows cols (length cells) true).number ≡ k → (k ≡ 0 → ⊥) → (k ≡ 2 → ⊥) → (k ≡ 4 → ⊥) → refused 5 ≡ intake_of cells rows cols
-  shape_fifth e a b c =
-      shape_refuses ((shape_plain rows cols (length cells)).five (λ z. a (sym e ∙ z)) (λ z. b (sym e ∙ z)) (λ z. c (sym e ∙ z))) (λ z. omega (arith, z))
-
   pub shape_passes : (shape_of rows cols (length cells) true).number ≡ 0 → {q : Refusal} → q ≡ fault_of cells rows → q ≡ intake_of cells rows cols
   unfolding intake_of
   shape_passes e h = h ∙ below_all (shape_of rows cols (length cells) true) (fault_of cells rows) e
@@ -75,3 +76,32 @@ module _ (cells : List ℤ) (rows cols : ℕ) where
       let a = unless_none _ (refused 2) _ refl (eq-eqb _ 0 e) in
       let b = accepted (length cells) rows rows true 0 0 a.1 in
       (b.few, b.square)
+
+-- the number of an error is the shape's
+shape_kept : (q : Refusal) → Plain q → (q.number ≡ 0 → ⊥) → shape_number q.number ≡ q.number
+unfolding shape_number
+shape_kept q p z =
+    by_cases (ℕ_discrete q.number 2)
+    (λ e. rw e)
+    (λ f. by_cases (ℕ_discrete q.number 4) (λ e. rw e) (λ g. rw (ne_eqb q.number 2 f, ne_eqb q.number 4 g) (sym (p.five z f g))))
+
+-- what `map_err` makes of the shape's answer a
+abbrev pub Mapped : Answer → Intake → Type 0
+Mapped a m = MatchResult a (λ x. m ≡ Ok x) (λ k. IsErrAnd m (λ d. refusal_of (Err d) ≡ refused (shape_number (number_of (Err k)))))
+
+module _ (cells : List ℤ) (rows cols : ℕ) where
+  pub shape_ok : (a : Answer) (m : Intake) → shapeRefusalOf a ≡ shape_of rows cols (length cells) true → Mapped a m → {x : Unit {0}} → m ≡ Ok x
+      → (shape_of rows cols (length cells) true).number ≡ 0
+  shape_ok (Ok y) m is h e = ap (λ (q : Refusal). q.number) (sym is)
+  shape_ok (Err k) (Ok x) is h e = absurd h
+  shape_ok (Err k) (Err f) is h e = absurd (cc)
+
+  pub shape_err : (a : Answer) (m : Intake) → shapeRefusalOf a ≡ shape_of rows cols (length cells) true → Mapped a m → {d : IntakeError} → m ≡ Err d
+      → refusal_of (Err d) ≡ intake_of cells rows cols
+  shape_err (Ok y) m is h e = absurd (cc)
+  shape_err (Err k) (Ok x) is h e = absurd h
+  shape_err (Err k) (Err f) is h e =
+      let n = ap (λ (q : Refusal). q.number) (sym is) in
+      let z = λ (w : (shape_of rows cols (length cells) true).number ≡ 0). err_number k (sym n ∙ w) in
+      ap refusal_of (sym e) ∙ h ∙ ap (λ (i : ℕ). refused (shape_number i)) (sym n)
+      ∙ ap refused (shape_kept (shape_of rows cols (length cells) true) (shape_plain rows cols (length cells)) z) ∙ shape_refuses cells rows cols refl z

@@ -32,6 +32,10 @@ on_diagonal x false = true
 unfoldable pub cause_of : ℤ → ℤ → Bool → ℕ
 cause_of x y diagonal = cond (in_range x) (cond (on_diagonal x diagonal) (cond (same_z x y) 0 23) 22) 21
 
+-- the refusal of the cell at place t for a cause, and none for 0
+unfoldable pub caused : ℕ → ℕ → Refusal
+caused cause t = whenever (ltb 0 cause) (record { number = cause; place = t }) none
+
 -- the cause at place t of a book of n names: row t / n, column t % n; its mirror has the two exchanged
 unfoldable pub cause_at : List ℤ → ℕ → ℕ → ℕ
 cause_at cells n t = cause_of (cell_of cells t) (cell_of cells (t % n * n + t / n)) (eqb (t / n) (t % n))
@@ -47,6 +51,10 @@ fault_of cells n = whenever (ltb (first_fault cells n) (n * n)) (record { number
 -- the shape of a book of so many rows, columns and cells: 2, 4 or 5, then 6 where the other lists of the call do not fit
 abbrev pub shape_of : ℕ → ℕ → ℕ → Bool → Refusal
 shape_of rows cols cells fits = unless (eqb rows cols) (refused 2) (refusal cells rows rows fits 0 0)
+
+-- the number of a book's own shape for that of `shape_of`, where 6 does not come
+unfoldable pub shape_number : ℕ → ℕ
+shape_number k = cond (eqb k 2) 2 (cond (eqb k 4) 4 5)
 
 -- the answer for a book of so many rows and columns: its shape, then its cells
 unfoldable pub intake_of : List ℤ → ℕ → ℕ → Refusal

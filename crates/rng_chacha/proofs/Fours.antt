@@ -1,37 +1,9 @@
--- Four blocks in one list: words that are stored one after the other, and blocks.
-use Rattle.std.proofs.Common.{◌≡◌, ℕ, ◌+◌, ◌*◌, ◌/◌, ◌%◌, ◌<◌, ◌≤◌, ◌⊎◌, List, length, set, sym, refl, ap, ◌∙◌, inl, inr, ⊎_elim, lt_of_not-le, arith, length-set, get_or-set_other, get_or-set_same}
-use mathlib.Core.Logic.{by_cases}
-use native.Mathlib.Decide.{ℕ_discrete, dec_le}
+-- Four blocks in one list, one after the other.
+use Rattle.std.proofs.Common.{◌≡◌, ℕ, ◌+◌, ◌*◌, ◌/◌, ◌%◌, ◌<◌, ◌≤◌, ◌⊎◌, List, length, sym, ap, ◌∙◌, inl, inr, ⊎_elim, lt_of_not-le, arith}
+use native.Mathlib.Decide.{dec_le}
 use Rattle.lists.specs.Lists.{numbers}
 use Rattle.lists.proofs.Listed.{listed_of, listed_same}
 use Rattle.rng_chacha.specs.Four.{four_of, Copied}
-
--- the first j words are stored as those of block b
-pub record Copying (b j : ℕ) (words out₀ out : List ℕ) : Type 0 where
-  pub few : j ≤ 16
-  pub small : b < 4
-  pub long : length out ≡ 64
-  pub so_many : length words ≡ 16
-  pub so_far : (k : ℕ) → k < j → numbers out (16 * b + k) ≡ numbers words k
-  pub front_is : (i : ℕ) → i < 16 * b → numbers out i ≡ numbers out₀ i
-
-pub copying_none : (b : ℕ) (words out : List ℕ) → b < 4 → length out ≡ 64 → length words ≡ 16 → Copying b 0 words out out
-copying_none b words out h l k = record { few = omega arith; small = h; long = l; so_many = k; so_far = λ i g. absurd (omega arith); front_is = λ i g. refl }
-
-pub copying_more : {b j : ℕ} {words out₀ out : List ℕ} → Copying b j words out₀ out → j < 16 → Copying b (j + 1) words out₀ (set out (16 * b + j) (numbers words j))
-copying_more {b} {j} {words} {out₀} {out} h l = record {
-  few = omega arith;
-  small = h.small;
-  long = length-set out (16 * b + j) (numbers words j) ∙ h.long;
-  so_many = h.so_many;
-  so_far = λ k g. by_cases (ℕ_discrete k j)
-      (λ q. rw q (get_or-set_same out (16 * b + j) (numbers words j) 0 (omega (arith, h.small, h.long))))
-      (λ q. get_or-set_other out (16 * b + j) (16 * b + k) (numbers words j) 0 (λ e. q (omega arith)) ∙ h.so_far k (omega arith));
-  front_is = λ i g. get_or-set_other out (16 * b + j) i (numbers words j) 0 (λ e. omega arith) ∙ h.front_is i g;
-}
-
-pub copying_done : {b j : ℕ} {words out₀ out : List ℕ} → Copying b j words out₀ out → 16 ≤ j → Copied b words out₀ out
-copying_done {b} {j} h l = record { block_is = λ k g. h.so_far k (omega (arith, h.few)); front_is = h.front_is }
 
 le-or-lt : (a b : ℕ) → (a ≤ b) ⊎ (b < a)
 le-or-lt a b = elim (dec_le a b) [ yes h ↦ inl h | no f ↦ inr (lt_of_not-le f) ]

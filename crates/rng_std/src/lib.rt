@@ -20,11 +20,8 @@ pub struct Drawn {
 fn advance(s: u64) -> u64
     ensures { result ≡ advanced s }
 {
-    let lower = s % 0x1_0000_0000;
-    let upper = s / 0x1_0000_0000;
-    let middle = std::num::wrapping_add_u64(upper * 0x4c95_7f2d, lower * 0x5851_f42d);
-    let product = std::num::wrapping_add_u64(lower * 0x4c95_7f2d, middle << 32);
-    std::num::wrapping_add_u64(product, 0xa176_54e4_6fbe_17f3)
+    s.wrapping_mul(0x5851_f42d_4c95_7f2d)
+        .wrapping_add(0xa176_54e4_6fbe_17f3)
 }
 
 // Its word.
@@ -33,31 +30,20 @@ fn output(s: u64) -> u32
 {
     let x = (((s >> 18) ^ s) >> 27) % 0x1_0000_0000;
     let n = (s >> 59) as u32;
-    rng_chacha::rotate_left(x as u32, (32 - n) % 32)
+    (x as u32).rotate_right(n)
 }
 
 // The key of a seed: eight of them, the first after one step.
 fn key_of(seed: u64) -> [u32; 8]
     ensures { result ≡ key_of seed }
 {
-    let s1 = advance(seed);
-    let s2 = advance(s1);
-    let s3 = advance(s2);
-    let s4 = advance(s3);
-    let s5 = advance(s4);
-    let s6 = advance(s5);
-    let s7 = advance(s6);
-    let s8 = advance(s7);
-    [
-        output(s1),
-        output(s2),
-        output(s3),
-        output(s4),
-        output(s5),
-        output(s6),
-        output(s7),
-        output(s8),
-    ]
+    let mut key = lists::buffer::<u32, 8>(0);
+    let mut s = seed;
+    for word in key.iter_mut() {
+        s = advance(s);
+        *word = output(s);
+    }
+    key
 }
 
 // The key in a generator's list.
@@ -65,9 +51,9 @@ fn key_in(rng: &[u32]) -> [u32; 8]
     requires { length rng.now ≡ 72 }
     ensures { result ≡ key_in rng.now }
 {
-    [
-        rng[64], rng[65], rng[66], rng[67], rng[68], rng[69], rng[70], rng[71],
-    ]
+    let mut key = lists::buffer::<u32, 8>(0);
+    key.copy_from_slice(&rng[64..72]);
+    key
 }
 
 // The list with this key.
@@ -75,9 +61,7 @@ fn put_key(rng: &mut [u32], key: [u32; 8])
     requires { length rng.old ≡ 72 }
     ensures { key_in rng.new ≡ key }
 {
-    for i in 0..8 {
-        rng[64 + i] = key[i];
-    }
+    rng[64..72].copy_from_slice(&key);
 }
 
 // The list with the chunk of this number: four blocks of 12 rounds.

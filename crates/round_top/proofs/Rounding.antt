@@ -115,7 +115,7 @@ module _ (book : List Float) (n repeats : ℕ) (draws : List ℕ) (src : Source)
     few = omega (arith, R.reads.items, R.reads.few)
 
     -- once the round has begun
-    module _ (a₁ : RoundStart) (wi₁ : List ℕ) (wf₁ : List Float) (B : RoundStarted O n m left moved a₁ wi wi₁ wf wf₁) where
+    module _ (a₁ : Result RoundStart Stop) (wi₁ : List ℕ) (wf₁ : List Float) (B : RoundStarted O n m left moved a₁ wi wi₁ wf wf₁) where
       behind_number : drop last_number wi₁ ≡ drop last_number wi
       behind_number = drop_behind (4 * n) last_number wi₁ wi (omega (arith, size)) B.behind
 

@@ -4,7 +4,7 @@ use mathlib.Core.Path.{◌≡◌, sym, ◌∙◌, ap}
 use mathlib.Core.Bool.{◌&&◌}
 use mathlib.Core.List.{List, ◌++◌}
 use native.Mathlib.Omega.{arith}
-use borrow.Author.Tests.{eq-eqb, eqb-true, leb-true}
+use borrow.Author.Tests.{eqb-true, leb-true}
 use lib.Dec.{eqb, leb}
 use lib.ListN.{length, take, drop, length-append, length-drop}
 use lib.Seq.{take_at, drop_at}
@@ -14,9 +14,8 @@ use Rattle.lists.proofs.Listed.{listed_same, listed_length}
 use Rattle.lists.proofs.First.{from_none}
 use Rattle.lists.proofs.Matrix.{in_matrix}
 use Rattle.lists.proofs.Parts.{drop_behind}
-use Rattle.refusals.specs.Table.{number_of, refusal_of, refusal, Refusal, work_doubles, wiped}
-use Rattle.refusals.specs.declared.Answer.{Answer}
-use Rattle.refusals.proofs.Laws.{accepted}
+use Rattle.refusals.specs.Table.{none, refusal, work_doubles, wiped}
+use Rattle.refusals.proofs.Laws.{allowed}
 use Rattle.silhouette_scores.specs.Scores.{silhouette}
 use Rattle.silhouette.specs.Leaf.{score_at, lists_fit}
 use Rattle.silhouette_scores.specs.Groups.{distance, Shape, scores_across}
@@ -59,12 +58,11 @@ module _ (pairs : List Float) (n : ℕ) (labels : List ℕ) (floats : List Float
       (λ i q. score_same (distance turned n i) (cell_at pairs n i) (numbers labels) n i (λ j b. in_matrix (λ r s. cell_at pairs n s r) n j i nan is b q))
 
 -- what holds of the lists of a call that is not refused
-pub ready : (a : Answer) (pairs : List Float) (n : ℕ) (labels : List ℕ) (scores floats : List Float)
-    → refusal_of a ≡ refusal (length pairs) n n (lists_fit n (length labels) (length scores) (length floats)) (first_from n labels) (length labels) → number_of a ≡ 0
+pub ready : (pairs : List Float) (n : ℕ) (labels : List ℕ) (scores floats : List Float)
+    → none ≡ refusal (length pairs) n n (lists_fit n (length labels) (length scores) (length floats)) (first_from n labels) (length labels)
     → ((0 < n) × (n ≤ 256) × (length pairs ≡ n * n) × (length labels ≡ n) × (length scores ≡ n) × (work_doubles n ≤ length floats)) × ((i : ℕ) → i < n → numbers labels i < n)
-ready a pairs n labels scores floats is h =
-    let q = accepted (length pairs) n n (lists_fit n (length labels) (length scores) (length floats)) (first_from n labels) (length labels)
-    (ap (λ (r : Refusal). eqb r.number 0) (sym is) ∙ eq-eqb (number_of a) 0 h) in
+ready pairs n labels scores floats is =
+    let q = allowed is in
     let f = both (eqb (length labels) n) (eqb (length scores) n && leb (work_doubles n) (length floats)) q.fitting in
     let g = both (eqb (length scores) n) (leb (work_doubles n) (length floats)) f.1 in
     let named = eqb-true (length labels) n f.0 in (

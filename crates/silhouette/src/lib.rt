@@ -7,6 +7,8 @@ ghost use Rattle.refusals.specs.Table.{refusal_of, work_doubles, wiped};
 ghost use Rattle.silhouette_scores.specs.Groups.{Shape, scores_across};
 ghost use Rattle.silhouette.specs.Leaf.{score_at, lists_fit, silhouettes_of};
 
+use refusals::Answer;
+
 // The score of each item, with lists of its own to work in.
 fn score_across(across: &[f64], n: usize, labels: &[usize], scores: &mut [f64])
     requires shape { Shape across.now labels.now }
@@ -42,13 +44,7 @@ fn score_checked(
 fn lists_fit(n: usize, labels: usize, scores: usize, floats: usize) -> bool
     ensures { n ≤ 256 → result ≡ lists_fit n labels scores floats }
 {
-    if labels != n {
-        return false;
-    }
-    if scores != n {
-        return false;
-    }
-    refusals::has_room(floats, n)
+    labels == n && scores == n && refusals::has_room(floats, n)
 }
 
 // The silhouette of each item. A refusal leaves every list as it was; else the working list is left zero at its front.
@@ -58,16 +54,13 @@ pub fn silhouette_from_pairwise(
     labels: &[usize],
     scores: &mut [f64],
     floats: &mut [f64],
-) -> refusals::Answer
+) -> Answer
     ensures { record { answer = refusal_of result; out = scores.new; floats = floats.new }
         ≡ silhouettes_of pairwise.now n labels.now scores.old floats.old }
 {
     let fits = lists_fit(n, labels.len(), scores.len(), floats.len());
     let bad = lists::first_from(n, labels);
-    let answer = refusals::check(pairwise.len(), n, n, fits, bad, labels.len());
-    if refusals::number_of(answer) != 0 {
-        return answer;
-    }
+    refusals::check(pairwise.len(), n, n, fits, bad, labels.len())?;
     score_checked(pairwise, n, labels, scores, floats);
-    answer
+    Ok(())
 }

@@ -1,11 +1,12 @@
 -- A case of a leaf, and whether the leaf answers and leaves what is expected. Definitions only.
-use Rattle.std.specs.Prelude.{ℕ, ◌+◌, ◌-◌, ◌/◌, Bool, cond, ◌&&◌, ◌||◌, List, [], ◌∷◌, eqb, ltb, length, replicate, Float}
+use Rattle.std.specs.Prelude.{ℕ, ◌+◌, ◌-◌, ◌/◌, Bool, cond, ◌&&◌, ◌||◌, List, [], ◌∷◌, eqb, ltb, length, replicate, Option, Some, None, Result, Ok, Err, Float}
 use Rattle.lists.specs.Lists.{cells}
 use Rattle.bits.specs.Bits.{double_of}
 use Rattle.sqrt.specs.Root.{root}
 use Rattle.stats.specs.Average.{Averaged, mean, variance, deviation}
 use Rattle.tstat.specs.Tstat.{tstat, mean_of}
-use Rattle.refusals.specs.Table.{Refusal, none, refused, Filled, Worked}
+use Rattle.refusals.specs.Table.{number_of, place_of, Refusal, none, refused, Filled, Worked}
+use Rattle.refusals.specs.declared.Cause.{Cause}
 use Rattle.distance.specs.Leaves.{corr_to_distance, corr_to_distance_through, submatrix_of}
 use Rattle.distance_squared.specs.Leaves.{Measured, squared_distance, squared_distance_through}
 use Rattle.distance_pairwise.specs.Leaves.{pairwise_distances, pairwise_distances_through}
@@ -42,6 +43,22 @@ average_of which ddof xs =
     cond (eqb which 0) (mean (cells xs) (length xs))
     (cond (eqb which 1) (variance (cells xs) (length xs) ddof)
     (cond (eqb which 2) (deviation (cells xs) (length xs) ddof) (cond (eqb which 3) (tstat (cells xs) (length xs)) (mean_of (cells xs) (length xs)))))
+
+-- what a call answers that gives a value or none, or why it is refused, as the table gives it
+abbrev pub Valued : Type 0
+Valued = Result (Option Float) Cause
+
+abbrev pub refusal_of : Valued → Refusal
+refusal_of (Ok x) = none
+refusal_of (Err k) = record { number = number_of (Err k); place = place_of (Err k) }
+
+abbrev pub values_of : Valued → List Float
+values_of (Ok (Some x)) = x ∷ []
+values_of (Ok None) = []
+values_of (Err k) = []
+
+abbrev pub measured_of : Valued → Measured
+measured_of v = record { answer = refusal_of v; values = values_of v }
 
 -- an average, and values that are never refused, as the other leaves answer
 abbrev pub measured_by : Averaged → Measured

@@ -10,15 +10,16 @@
 ghost use Rattle.std.specs.Prelude.{◌+◌, ◌<◌, ◌≤◌, ◌≡◌, ◌&&◌, length, take, replicate};
 ghost use Rattle.refusals.specs.Table.{refusal_of};
 ghost use Rattle.stats.specs.Average.{averaged_of};
-ghost use Rattle.distance_squared.specs.Leaves.{measured_of};
 ghost use Rattle.test_words.specs.Words.{doubles_from, words_from};
 ghost use Rattle.test_compared.specs.Compared.{seven, same_numbers, same_doubles};
-ghost use Rattle.test_examples.specs.Cases.{case_at, average_of, measured_by, first_root, half, value_of, list_of, names_of, same_outcome, right_value, right_leaf, right_lists, right_case, counts_in};
+ghost use Rattle.test_examples.specs.Cases.{case_at, average_of, measured_of, measured_by, first_root, half, value_of, list_of, names_of, same_outcome, right_value, right_leaf, right_lists, right_case, counts_in};
 
-use distance_squared::Squared;
-use refusals::Answer;
+use refusals::{Answer, Cause};
 use stats::Average;
 use test_counts::Counts;
+
+// A value, or none, or why it is refused.
+type Valued = Result<Option<f64>, Cause>;
 
 // The sizes of a case, the word at which its expected answer starts, and the one at which the next case does.
 #[derive(Clone, Copy)]
@@ -77,18 +78,18 @@ fn read_case(text: &[u8], at: usize) -> Case
     }
 }
 
-// An average as `squared_distance_through` answers; where there is none, nothing is refused.
-fn of_average(a: Average) -> Squared
+// An average as the other leaves answer.
+fn of_average(a: Average) -> Valued
     ensures { measured_of result ≡ measured_by (averaged_of a) }
 {
     match a {
-        Average::Value(x) => Squared::Value(x),
-        Average::Empty => Squared::Refused(Answer::Done),
-        Average::TooMany => Squared::Refused(Answer::TooLarge),
+        Ok(x) => Ok(x),
+        Err(_many) => Err(Cause::TooLarge),
     }
 }
 
 // Leaves 2 to 6, by 0 to 4.
+#[tactic(auto, using(std::proofs::lemmas::Bool::Decides::nat_tests), unfolding(crate::specs::Cases::average_of))]
 fn average(which: u64, ddof: usize, a: &[f64]) -> Average
     ensures { averaged_of result ≡ average_of which ddof a.now }
 {
@@ -108,28 +109,29 @@ fn average(which: u64, ddof: usize, a: &[f64]) -> Average
 }
 
 // Leaf 1.
-fn root_of(a: &[f64]) -> Squared
+#[tactic(auto, using(std::proofs::lemmas::Bool::Decides::nat_tests), unfolding(crate::specs::Cases::first_root))]
+fn root_of(a: &[f64]) -> Valued
     ensures { measured_of result ≡ first_root a.now }
 {
     if a.len() == 0 {
-        return Squared::Refused(Answer::Done);
+        return Ok(None);
     }
-    Squared::Value(sqrt::sqrt(a[0]))
+    Ok(Some(sqrt::sqrt(a[0])))
 }
 
 // Leaf 15: leaves 2 to 6, with ddof 0, over n values of 0.5, of which there may be too many.
-fn call_many(which: u64, n: usize) -> Squared
+fn call_many(which: u64, n: usize) -> Valued
     ensures { measured_of result ≡ measured_by (average_of which 0 (replicate n half)) }
 {
     if n > 65537 {
-        return Squared::Refused(Answer::TooLarge);
+        return Err(Cause::TooLarge);
     }
     let values = lists::filled::<f64, 65537>(0.5);
     of_average(average(which, 0, &values[..n]))
 }
 
 // Leaves 1 to 7, 14 and 15: they answer one value, or none.
-fn call_value(c: Case, a: &[f64], b: &[f64], rows: &[usize]) -> Squared
+fn call_value(c: Case, a: &[f64], b: &[f64], rows: &[usize]) -> Valued
     ensures { measured_of result ≡ value_of c a.now b.now rows.now }
 {
     if c.leaf < 2 {
@@ -139,10 +141,11 @@ fn call_value(c: Case, a: &[f64], b: &[f64], rows: &[usize]) -> Squared
         return of_average(average(c.leaf - 2, c.n, a));
     }
     if c.leaf == 7 {
-        return Squared::Value(distance_squared::squared_distance(a, b));
+        return Ok(Some(distance_squared::squared_distance(a, b)));
     }
     if c.leaf == 14 {
-        return distance_squared::squared_distance_through(a, c.n, rows, c.i, c.j);
+        let squared = distance_squared::squared_distance_through(a, c.n, rows, c.i, c.j)?;
+        return Ok(Some(squared));
     }
     call_many(c.i as u64, c.n)
 }
@@ -170,6 +173,7 @@ fn call_list(c: Case, a: &[f64], rows: &[usize], out: &mut [f64], floats: &mut [
 }
 
 // How many names the working list is for: none for 8 to 10, the row numbers for 12.
+#[tactic(auto, using(std::proofs::lemmas::Bool::Decides::nat_tests), unfolding(crate::specs::Cases::names_of))]
 fn names_of(c: Case) -> usize
     ensures { result ≡ names_of c }
 {
@@ -187,10 +191,8 @@ fn same_values(text: &[u8], expected: usize, answer: &[usize], values: &[f64]) -
     requires { expected ≤ 20296 }
     ensures { result ≡ same_numbers text.now expected answer.now && same_doubles text.now (expected + 3) values.now }
 {
-    if !test_compared::same_numbers(text, expected, answer) {
-        return false;
-    }
-    test_compared::same_doubles(text, expected + 3, values)
+    test_compared::same_numbers(text, expected, answer)
+        && test_compared::same_doubles(text, expected + 3, values)
 }
 
 // Whether the text has this answer's number and place, the count of these values and their patterns at `expected`.
@@ -204,13 +206,14 @@ fn same_outcome(text: &[u8], expected: usize, a: Answer, values: &[f64]) -> bool
 }
 
 // Whether a leaf that answers one value or none answers what is expected.
-fn right_value(text: &[u8], c: Case, s: Squared) -> bool
+fn right_value(text: &[u8], c: Case, s: Valued) -> bool
     requires { c.expected ≤ 20296 }
     ensures { result ≡ right_value text.now c (measured_of s) }
 {
     match s {
-        Squared::Value(x) => same_outcome(text, c.expected, Answer::Done, &[x]),
-        Squared::Refused(a) => same_outcome(text, c.expected, a, &[]),
+        Ok(Some(x)) => same_outcome(text, c.expected, Ok(()), &[x]),
+        Ok(None) => same_outcome(text, c.expected, Ok(()), &[]),
+        Err(cause) => same_outcome(text, c.expected, Err(cause), &[]),
     }
 }
 
@@ -247,14 +250,12 @@ fn right_lent(text: &[u8], c: Case, a: &[f64], rows: &[usize]) -> bool
 }
 
 // Runs a case whose lists are read.
+#[tactic(auto, using(std::proofs::lemmas::Bool::Decides::nat_tests), unfolding(crate::specs::Cases::right_lists))]
 fn right_lists(text: &[u8], c: Case, a: &[f64], b: &[f64], rows: &[usize]) -> bool
     requires { (c.out ≤ 144) × (c.floats ≤ 8192) × (c.expected ≤ 20296) }
     ensures { result ≡ right_lists text.now c a.now b.now rows.now }
 {
-    if c.leaf < 8 {
-        return right_value(text, c, call_value(c, a, b, rows));
-    }
-    if c.leaf > 13 {
+    if c.leaf < 8 || c.leaf > 13 {
         return right_value(text, c, call_value(c, a, b, rows));
     }
     right_lent(text, c, a, rows)

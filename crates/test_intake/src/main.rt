@@ -38,8 +38,7 @@ fn signed_of(word: u64) -> i64
 fn signed(text: &[u8], at: usize, xs: &mut [i64])
     ensures { xs.new ≡ signed_from text.now at (length xs.old) }
 {
-    let n = xs.len();
-    for i in 0..n {
+    for i in 0..xs.len() {
         xs[i] = signed_of(test_words::word_from(text, at, i));
     }
 }
@@ -139,8 +138,7 @@ fn make_book(cells: &mut [i64], n: usize)
     requires { (n ≤ 257) × (length cells.old ≡ n * n) }
     ensures { cells.new ≡ made_book n }
 {
-    let count = n * n;
-    for t in 0..count {
+    for t in 0..cells.len() {
         cells[t] = made_cell(t / n, t % n);
     }
 }

@@ -154,14 +154,10 @@ fn same_leaf(
       numbers = numbers.now;
     }) }
 {
-    if !same_answer(text, c.expected, a) {
-        return false;
-    }
-    if !test_compared::same_numbers(text, c.expected + 3, out) {
-        return false;
-    }
     let names = test_compared::names_wiped(kmeans_answers::number_of(a), c.n);
-    test_compared::left_lists(names, floats, numbers)
+    same_answer(text, c.expected, a)
+        && test_compared::same_numbers(text, c.expected + 3, out)
+        && test_compared::left_lists(names, floats, numbers)
 }
 
 // Runs a leaf, and compares what it answers and leaves.
@@ -191,18 +187,15 @@ fn right_list(text: &[u8], c: Case, points: &[f64], draws: &[u64], centres: &[us
     let mut out = lists::filled::<usize, 64>(999);
     let mut floats = lists::filled::<f64, 6400>(7.0);
     let mut numbers = lists::filled::<usize, 5400>(999);
-    let n_out = c.out;
-    let n_floats = c.floats;
-    let n_numbers = c.numbers;
     right_lists(
         text,
         c,
         points,
         draws,
         centres,
-        &mut out[..n_out],
-        &mut floats[..n_floats],
-        &mut numbers[..n_numbers],
+        &mut out[..c.out],
+        &mut floats[..c.floats],
+        &mut numbers[..c.numbers],
     )
 }
 
@@ -211,19 +204,17 @@ fn right_case(text: &[u8], at: usize, c: Case) -> bool
     requires { (at ≤ 20000) × (c.points ≤ 256) × (c.list ≤ 64) × (c.out ≤ 64) × (c.floats ≤ 6400) × (c.numbers ≤ 5400) × (c.expected ≤ 20328) }
     ensures { result ≡ right_case text.now at c }
 {
-    let n_points = c.points;
-    let n_list = c.list;
     let first = at + 8;
-    let second = first + n_points;
-    let points = points_at(text, first, n_points);
-    let draws = draws_at(text, second, n_list);
-    let centres = centres_at(text, second, n_list);
+    let second = first + c.points;
+    let points = points_at(text, first, c.points);
+    let draws = draws_at(text, second, c.list);
+    let centres = centres_at(text, second, c.list);
     right_list(
         text,
         c,
-        &points[..n_points],
-        &draws[..n_list],
-        &centres[..n_list],
+        &points[..c.points],
+        &draws[..c.list],
+        &centres[..c.list],
     )
 }
 

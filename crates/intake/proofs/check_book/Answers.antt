@@ -1,20 +1,18 @@
-use mathlib.Core.Path.{sym, ap, ◌∙◌}
-use native.Mathlib.Omega.{arith}
-use Rattle.refusals.specs.Table.{Refusal}
-use Rattle.intake.proofs.Shape.{shape_refuses, shape_fifth, shape_passes, shape_fits}
+use Rattle.std.proofs.lemmas.Result.{err_from_is_err_and}
+use Rattle.intake.proofs.Shape.{shape_err, shape_fits, shape_ok, shape_passes}
 use Rattle.intake.proofs.check_book.Goals as goal
 
-pub returns-then-shape-eq2 : goal.returns-then-shape-eq2
-returns-then-shape-eq2 c = shape_refuses c.args.cells.now c.args.rows c.args.cols (ap (λ (q : Refusal). q.number) (sym c.check_shape.ensures) ∙ sym c.number_of-shape.ensures ∙ c.if-shape-eq2.true) (λ z. omega (arith, z))
-
-pub returns-then-shape-eq4 : goal.returns-then-shape-eq4
-returns-then-shape-eq4 c = shape_refuses c.args.cells.now c.args.rows c.args.cols (ap (λ (q : Refusal). q.number) (sym c.check_shape.ensures) ∙ sym c.number_of-shape.ensures ∙ c.if-shape-eq4.true) (λ z. omega (arith, z))
-
-pub returns-then-shape-ne0 : goal.returns-then-shape-ne0
-returns-then-shape-ne0 c = shape_fifth c.args.cells.now c.args.rows c.args.cols (ap (λ (q : Refusal). q.number) (sym c.check_shape.ensures) ∙ sym c.number_of-shape.ensures) c.if-shape-ne0.true c.if-shape-eq2.false c.if-shape-eq4.false
+pub returns-in_err-map_err : goal.returns-in_err-map_err
+returns-in_err-map_err c =
+    let p = err_from_is_err_and c.from_residual.result c.from_residual.ensures.1 in
+    rw (p.1, p.2) (shape_err c.args.cells.now c.args.rows c.args.cols c.check_shape.result c.map_err.result c.check_shape.ensures c.map_err.ensures.cases c.in_err-map_err.was)
 
 pub check_cells-requires : goal.check_cells-requires
-check_cells-requires c = shape_fits c.args.cells.now c.args.rows c.args.cols (ap (λ (q : Refusal). q.number) (sym c.check_shape.ensures) ∙ sym c.number_of-shape.ensures ∙ c.if-shape-ne0.false)
+check_cells-requires c =
+    shape_fits c.args.cells.now c.args.rows c.args.cols
+    (shape_ok c.args.cells.now c.args.rows c.args.cols c.check_shape.result c.map_err.result c.check_shape.ensures c.map_err.ensures.cases c.in_ok-map_err.was)
 
 pub returns : goal.returns
-returns c = shape_passes c.args.cells.now c.args.rows c.args.cols (ap (λ (q : Refusal). q.number) (sym c.check_shape.ensures) ∙ sym c.number_of-shape.ensures ∙ c.if-shape-ne0.false) c.check_cells.ensures
+returns c =
+    shape_passes c.args.cells.now c.args.rows c.args.cols
+    (shape_ok c.args.cells.now c.args.rows c.args.cols c.check_shape.result c.map_err.result c.check_shape.ensures c.map_err.ensures.cases c.in_ok-map_err.was) c.check_cells.ensures

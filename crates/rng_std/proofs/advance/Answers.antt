@@ -1,5 +1,8 @@
-use Rattle.rng_std.proofs.Products.{advance_law}
+use Prim.Native.Nat.{◌*◌, ◌^◌}
+use native.Mathlib.Nat.{mod-add-mod}
+use Rattle.rng_std.specs.Seeds.{advanced}
 use Rattle.rng_std.proofs.advance.Goals as goal
 
 pub returns : goal.returns
-returns c = rw (c.wrapping_add_u64.ensures.value, c.wrapping_add_u64-product.ensures.value, c.wrapping_add_u64-middle.ensures.value) (advance_law c.args.s)
+unfolding advanced
+returns c = mod-add-mod (c.args.s * 0x5851f42d4c957f2d) (2 ^ 64) 0xa17654e46fbe17f3

@@ -24,9 +24,9 @@ returns-then-lacks c =
 pub start_with-requires : goal.start_with-requires
 start_with-requires c =
     let few : c.args.m ≤ 256 = omega (arith, c.requires.0.items, c.requires.0.few) in
-    let a : length (take c.args.m c.number_buffer-order.result) ≡ c.args.m = length-take-le c.args.m c.number_buffer-order.result (omega (arith, few, c.number_buffer-order.ensures)) in
-    let b : length (take c.args.m c.number_buffer-sizes.result) ≡ c.args.m = length-take-le c.args.m c.number_buffer-sizes.result (omega (arith, few, c.number_buffer-sizes.ensures)) in
-    let d : length (take c.args.m c.row_buffer-scores.result) ≡ c.args.m = length-take-le c.args.m c.row_buffer-scores.result (omega (arith, few, c.row_buffer-scores.ensures)) in
+    let a : length (take c.args.m c.buffer-order.result) ≡ c.args.m = length-take-le c.args.m c.buffer-order.result (omega (arith, few, c.buffer-order.ensures)) in
+    let b : length (take c.args.m c.buffer-sizes.result) ≡ c.args.m = length-take-le c.args.m c.buffer-sizes.result (omega (arith, few, c.buffer-sizes.ensures)) in
+    let d : length (take c.args.m c.buffer-scores.result) ≡ c.args.m = length-take-le c.args.m c.buffer-scores.result (omega (arith, few, c.buffer-scores.ensures)) in
     let need = c.args.repeat * count_of c.args.m in
     let most : need ≤ 13723392 = need_fits c.args.repeat c.args.m c.requires.0.times few in
     let full : c.args.src.seeded ≡ false → c.args.src.at + need ≤ length c.args.draws.now =

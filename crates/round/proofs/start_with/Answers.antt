@@ -23,7 +23,7 @@ returns-in_err-based c =
     let ek : k ≡ 5 * (m * m) = omega arith in
     let la : length c.cluster_kmeans_base.new.area ≡ k = c.cluster_kmeans_base.auto.area ∙ open_part _ _ _ _ _ _ _ _ _ c.requires.0 k ek in
     let y = err_from_is_err_and c.from_residual.result c.from_residual.ensures.1 in
-    rw (y.1, y.2) (stopped_law _ _ _ _ _ _ _ _ _ c.requires.0 k c.cluster_kmeans_base.new.area ek la c.in_err-based.field-0 (rw c.in_err-based.was at c.cluster_kmeans_base.ensures))
+    rw (y.1, y.2) (stopped_law _ _ _ _ _ _ _ _ _ c.requires.0 k c.cluster_kmeans_base.new.area ek la _ (rw c.in_err-based.was at c.cluster_kmeans_base.ensures))
 
 pub returns : goal.returns
 returns c =

@@ -8,4 +8,4 @@ pub returns-then-n-gt65537 : goal.returns-then-n-gt65537
 returns-then-n-gt65537 c = rw (average_refused c.args.which c.args.n c.if-n-gt65537.true)
 
 pub returns : goal.returns
-returns c = c.of_average.ensures ∙ ap measured_by (c.average.ensures ∙ ap (average_of c.args.which 0) (buffer_front _ 65537 half c.many-values.ensures c.if-n-gt65537.false))
+returns c = c.of_average.ensures ∙ ap measured_by (c.average.ensures ∙ ap (average_of c.args.which 0) (buffer_front _ 65537 half c.filled-values.ensures c.if-n-gt65537.false))

@@ -1,6 +1,7 @@
 use mathlib.Core.Path.{◌∙◌, ap}
 use mathlib.Core.List.{[], ◌∷◌}
 use borrow.Author.Tests.{eq-eqb, ne_eqb, lt-ltb, le-ltb}
+use Rattle.std.proofs.lemmas.Result.{err_from_is_err_and}
 use lib.Ieee.{Float}
 use Rattle.test_examples.specs.Cases.{measured_by, valued, value_of}
 use Rattle.test_examples.proofs.call_value.Goals as goal
@@ -17,9 +18,15 @@ pub returns-then-c-eq7 : goal.returns-then-c-eq7
 unfolding value_of
 returns-then-c-eq7 c = rw (le-ltb _ _ c.if-c-lt2.false, le-ltb _ _ c.if-c-lt7.false, eq-eqb _ _ c.if-c-eq7.true) (ap (λ (x : Float). valued (x ∷ [])) c.squared_distance.ensures)
 
+pub returns-in_err-squared : goal.returns-in_err-squared
+unfolding value_of
+returns-in_err-squared c =
+    let p = err_from_is_err_and c.from_residual.result c.from_residual.ensures.1 in
+    rw (le-ltb _ _ c.if-c-lt2.false, le-ltb _ _ c.if-c-lt7.false, ne_eqb _ _ c.if-c-eq7.false, eq-eqb _ _ c.if-c-eq14.true, p.1, p.2) c.in_err-squared.ensures
+
 pub returns-then-c-eq14 : goal.returns-then-c-eq14
 unfolding value_of
-returns-then-c-eq14 c = rw (le-ltb _ _ c.if-c-lt2.false, le-ltb _ _ c.if-c-lt7.false, ne_eqb _ _ c.if-c-eq7.false, eq-eqb _ _ c.if-c-eq14.true) c.squared_distance_through.ensures
+returns-then-c-eq14 c = rw (le-ltb _ _ c.if-c-lt2.false, le-ltb _ _ c.if-c-lt7.false, ne_eqb _ _ c.if-c-eq7.false, eq-eqb _ _ c.if-c-eq14.true) c.in_ok-squared.ensures
 
 pub returns : goal.returns
 unfolding value_of

@@ -1,10 +1,8 @@
-use Prim.Native.Nat.{◌≤◌}
 use mathlib.Core.Path.{◌≡◌}
-use lib.ListN.{length}
 use Rattle.test_words.specs.Words.{word_from}
 use Rattle.lists.proofs.Listed.{writes}
 use Rattle.test_intake.specs.Cases.{signed_of}
 use Rattle.test_intake.proofs.signed.Given as goal
 
 abbrev pub invariant-loop-i : goal.invariant-loop-i
-invariant-loop-i l = (l.n ≡ length l.initial.xs) × (l.i ≤ l.n) × (length l.xs ≡ l.n) × (l.xs ≡ writes (λ k. signed_of (word_from l.text l.at k)) l.i l.initial.xs)
+invariant-loop-i l = l.xs ≡ writes (λ k. signed_of (word_from l.text l.at k)) l.i l.initial.xs

@@ -1,9 +1,0 @@
-use Prim.Native.Nat.{◌*◌, ◌≤◌}
-use mathlib.Core.Path.{◌≡◌}
-use lib.Dec.{ltb}
-use Rattle.intake.specs.Intake.{cause_at}
-use Rattle.lists.specs.Lists.{first_to}
-use Rattle.intake.proofs.first_fault.Given as goal
-
-abbrev pub invariant-loop-t : goal.invariant-loop-t
-invariant-loop-t l = (l.count ≡ l.n * l.n) × (l.t ≤ l.count) × (first_to (λ j. ltb 0 (cause_at l.cells l.n j)) l.t ≡ l.t)
