@@ -83,7 +83,7 @@ for path in sorted(glob.glob(os.path.join(root, "crates/*/src/*.rt"))):
         if name not in ("number_of", "place_of", "stop_number", "stop_place") and re.search(r"(return|=>|\{\n) *(4|5|6|11|21|22|23),?;?\n|\((5|6|11), 0, out\)|\b(cause|number|shape|refused|asked)\w* [!=]= [0-9]+", body):
             places["1 number"].append(here)
         s = shape(name, params, body)
-        if len(s) > 24:
+        if len(s) > 24 or re.fullmatch(r"\{\[N;N\]\}", s):
             shapes[s].append(here)
         for m in re.finditer(r"^ *(?:for (\w+) in (?![a-z&(]\w*\.)[^{\n]*\.\.[^{\n]* \{|while )", body, re.M):
             places["3 loop"].append(here)

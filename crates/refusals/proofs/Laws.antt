@@ -7,7 +7,7 @@ use mathlib.Core.Logic.{by_cases}
 use native.Mathlib.Omega.{arith}
 use native.Mathlib.Decide.{dec_lt}
 use borrow.Author.Tests.{lt-ltb, ltb-false, eqb-true, eq-eqb, ne_eqb}
-use Rattle.std.proofs.Common.{Err}
+use Rattle.std.proofs.Common.{Ok, Err}
 use lib.Dec.{eqb, ltb}
 use lib.Ieee.{Float}
 use Rattle.refusals.specs.Table.{Answer, number_of, refusal_of, Refusal, none, refused, whenever, unless, refusal, filled, worked, wiped}
@@ -66,9 +66,33 @@ pub fits_asked : (cells n m : ℕ) (f g : Bool) (bad count : ℕ) → (m ≤ 256
 fits_asked cells n m f g bad count e =
     by_cases (dec_lt 256 m) (λ h. many_rows cells n m f g bad bad count count h) (λ h. ap (λ (b : Bool). refusal cells n m b bad count) (e (omega arith)))
 
+-- the record of a call with one output list, refused and not
+module _ (a : Answer) (q : Refusal) (is : refusal_of a ≡ q) (new old : List Float) where
+  pub not_filled : (number_of a ≡ 0 → ⊥) → record { answer = refusal_of a; out = old } ≡ filled q new old
+  not_filled h = rw (← is, ne_eqb (number_of a) 0 h)
+
+  pub was_filled : {out : List Float} → number_of a ≡ 0 → out ≡ new → record { answer = refusal_of a; out = out } ≡ filled q new old
+  was_filled h e = rw (← is, eq-eqb (number_of a) 0 h, e)
+
+  pub not_worked : (m : ℕ) (floats : List Float) → (number_of a ≡ 0 → ⊥) → record { answer = refusal_of a; out = old; floats = floats } ≡ worked q m new old floats
+  not_worked m floats h = rw (← is, ne_eqb (number_of a) 0 h)
+
+  pub was_worked : (m : ℕ) (floats : List Float) {out left : List Float} → number_of a ≡ 0 → out ≡ new → left ≡ wiped m floats
+      → record { answer = refusal_of a; out = out; floats = left } ≡ worked q m new old floats
+  was_worked m floats h e l = rw (← is, eq-eqb (number_of a) 0 h, e, l)
+
 -- a call whose number is 0 is not refused
 pub passed : (a : Answer) {q : Refusal} → refusal_of a ≡ q → number_of a ≡ 0 → eqb q.number 0 ≡ true
 passed a is h = rw (← is) (eq-eqb (number_of a) 0 h)
+
+-- and is given no place
+pub done_none : (a : Answer) → number_of a ≡ 0 → refusal_of a ≡ none
+done_none (Ok done) h = refl
+done_none (Err InvalidCorrelationMatrix) h = absurd (omega arith)
+done_none (Err TooLarge) h = absurd (omega arith)
+done_none (Err CellCount) h = absurd (omega arith)
+done_none (Err ListLength) h = absurd (omega arith)
+done_none (Err (OutOfRange k)) h = absurd (omega arith)
 
 -- a cause has a number other than 0
 pub err_number : (k : Cause) → number_of (Err k) ≡ 0 → ⊥
@@ -84,15 +108,15 @@ allowed {cells} {n} {m} {fits} {bad} {count} is = accepted cells n m fits bad co
 
 -- the records of a call that answers Err, and of one that answers Ok
 pub err_filled : (k : Cause) {q : Refusal} (new old : List Float) → refusal_of (Err k) ≡ q → record { answer = refusal_of (Err k); out = old } ≡ filled q new old
-err_filled k new old is = rw (← is, ne_eqb (number_of (Err k)) 0 (err_number k))
+err_filled k {q} new old is = not_filled (Err k) q is new old (err_number k)
 
 pub ok_filled : {q : Refusal} {new out : List Float} (old : List Float) → none ≡ q → out ≡ new → record { answer = none; out = out } ≡ filled q new old
-ok_filled old is e = rw (← is, e)
+ok_filled {q} {new} old is e = was_filled (Ok tt) q is new old refl e
 
 pub err_worked : (k : Cause) {q : Refusal} (new old : List Float) (m : ℕ) (floats : List Float) → refusal_of (Err k) ≡ q
     → record { answer = refusal_of (Err k); out = old; floats = floats } ≡ worked q m new old floats
-err_worked k new old m floats is = rw (← is, ne_eqb (number_of (Err k)) 0 (err_number k))
+err_worked k {q} new old m floats is = not_worked (Err k) q is new old m floats (err_number k)
 
 pub ok_worked : {q : Refusal} {new out left : List Float} (old : List Float) (m : ℕ) (floats : List Float) → none ≡ q → out ≡ new → left ≡ wiped m floats
     → record { answer = none; out = out; floats = left } ≡ worked q m new old floats
-ok_worked old m floats is e l = rw (← is, e, l)
+ok_worked {q} {new} old m floats is e l = was_worked (Ok tt) q is new old m floats refl e l

@@ -31,7 +31,6 @@ variance_of f n ddof = variance_about (exact_mean f n) f n ddof
 abbrev pub deviation_of : (ℕ → Float) → ℕ → ℕ → Float
 deviation_of f n ddof = root (variance_of f n ddof)
 
--- what an average answers: its value, or none where it has none; or that it has too many values
 abbrev pub Average : Type 0
 Average = Result (Option Float) TooMany
 
