@@ -9,7 +9,9 @@ use lib.ListN.{length}
 use Rattle.lists.proofs.Tests.{impossible}
 use Rattle.refusals.specs.Table.{Refusal, refused}
 use Rattle.refusals.proofs.Laws.{accepted, when_none, unless_none}
-use Rattle.onc_answers.specs.declared.Onc.{Onc}
+use Rattle.std.proofs.Common.{Result}
+use Rattle.onc_answers.specs.declared.Grouped.{Grouped}
+use Rattle.onc_answers.specs.declared.OncError.{OncError}
 use Rattle.onc_answers.specs.Answers.{number_of, place_of, groups_of, read_of, answer_of}
 use Rattle.onc_checks.specs.Checks.{shape_of}
 use Rattle.onc_run.specs.Run.{Lists, Outcome}
@@ -30,7 +32,7 @@ pub four_places : (repeat rows cols cells places : ℕ) {r : ℕ} → r ≡ cond
 four_places repeat rows cols cells places e z = places_are 4 places (λ q. not_none repeat rows cols cells (ap (λ (x : ℕ). eqb x 0) q)) e z
 
 module _ (q : Refusal) (o : Outcome) (answer : List ℕ) (l : Lists) where
-  pub grouping_reported_lem : (a : Onc) {r : ℕ} {answer' : List ℕ} {l' : Lists} → length answer ≡ 4 → record { answer = answer_of a; lists = l' } ≡ o → r ≡ number_of a
+  pub grouping_reported_lem : (a : Result Grouped OncError) {r : ℕ} {answer' : List ℕ} {l' : Lists} → length answer ≡ 4 → record { answer = answer_of a; lists = l' } ≡ o → r ≡ number_of a
       → answer' ≡ number_of a ∷ place_of a ∷ groups_of a ∷ read_of a ∷ [] → record { number = r; answer = answer'; lists = l' } ≡ grouping_reported q o answer l
   unfolding grouping_reported
   grouping_reported_lem a h e f g = rw (eq-eqb (length answer) 4 h, ← e, f, g)
