@@ -52,14 +52,10 @@ fn same_run(
       };
     }) }
 {
-    if !test_run_cases::same_answer(text, c.expected, a) {
-        return false;
-    }
-    if !test_run_cases::same_outputs(text, c, order, sizes, scores, ordered) {
-        return false;
-    }
     let names = test_compared::names_wiped(onc_answers::number_of(a), c.rows);
-    test_compared::left_lists(names, floats, numbers)
+    test_run_cases::same_answer(text, c.expected, a)
+        && test_run_cases::same_outputs(text, c, order, sizes, scores, ordered)
+        && test_compared::left_lists(names, floats, numbers)
 }
 
 // Makes the call: by the seed, or where the case has no word for one, without.
@@ -157,8 +153,6 @@ fn right_worked(
 {
     let mut floats = lists::filled::<f64, 4400>(7.0);
     let mut numbers = lists::filled::<usize, 4000>(999);
-    let n_floats = c.floats;
-    let n_numbers = c.numbers;
     right_run(
         text,
         c,
@@ -168,8 +162,8 @@ fn right_worked(
         sizes,
         scores,
         ordered,
-        &mut floats[..n_floats],
-        &mut numbers[..n_numbers],
+        &mut floats[..c.floats],
+        &mut numbers[..c.numbers],
     )
 }
 
@@ -182,19 +176,15 @@ fn right_lists(text: &[u8], c: Case, cells: &[f64], seed: u64) -> bool
     let mut sizes = lists::filled::<usize, 16>(999);
     let mut scores = lists::filled::<f64, 16>(7.0);
     let mut ordered = lists::filled::<f64, 256>(7.0);
-    let n_order = c.order;
-    let n_sizes = c.sizes;
-    let n_scores = c.scores;
-    let n_ordered = c.ordered;
     right_worked(
         text,
         c,
         cells,
         seed,
-        &mut order[..n_order],
-        &mut sizes[..n_sizes],
-        &mut scores[..n_scores],
-        &mut ordered[..n_ordered],
+        &mut order[..c.order],
+        &mut sizes[..c.sizes],
+        &mut scores[..c.scores],
+        &mut ordered[..c.ordered],
     )
 }
 
@@ -204,12 +194,11 @@ fn right_case(text: &[u8], at: usize, c: Case) -> bool
     requires expected_bound { (c.expected ≤ 94725) × (c.order ≤ 16) × (c.sizes ≤ 16) × (c.scores ≤ 16) × (c.floats ≤ 4400) × (c.numbers ≤ 4000) × (c.ordered ≤ 256) }
     ensures { result ≡ right_case text.now at c }
 {
-    let n_cells = c.cells;
     let first = at + 12;
-    let second = first + n_cells;
-    let cells = cells_at(text, first, n_cells);
+    let second = first + c.cells;
+    let cells = cells_at(text, first, c.cells);
     let seed = test_words::word_from(text, second, 0);
-    right_lists(text, c, &cells[..n_cells], seed)
+    right_lists(text, c, &cells[..c.cells], seed)
 }
 
 // Runs every case of the text, and reports those that differ.
