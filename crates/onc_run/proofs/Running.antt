@@ -20,7 +20,7 @@ use Rattle.round_top.specs.declared.Top.{Top}
 use Rattle.plusplus_seeded.specs.declared.Source.{Source}
 use Rattle.round.specs.Round.{Run, done, ended, round_of}
 use Rattle.round.specs.Made.{round_given}
-use Rattle.round_top.specs.Steps.{top, Ready, RoundLeaves, top_of, order_after, sizes_after, scores_after}
+use Rattle.round_top.specs.Steps.{top_done, Ready, RoundLeaves, top_of, order_after, sizes_after, scores_after}
 use Rattle.round.proofs.Runs.{Whole}
 use Rattle.onc_answers.specs.declared.OncError.TheVariants.{Stopped}
 use Rattle.onc_answers.specs.Answers.{answer_of}
@@ -126,7 +126,7 @@ module _ (book : List Float) (n : ℕ) (r : Run) (l : Lists) {a : Result Top Sto
         by (done t ms read rest) ea eo es ec = let z : ◌≡◌ {A = ℕ} 0 1 = cc in let y : ⊥ = omega arith in absurd y
         by (ended q ms) ea eo es ec = let z : q ≡ s = cc in rw (eo, es, ec, floats_wiped, numbers_wiped, z) refl
 
-    pub left_grouped : (groups read : ℕ) {ordered : List Float} → a ≡ top groups read → length order ≡ n → ordered ≡ matrix_of (cell_through book n order) (length order)
+    pub left_grouped : (groups read : ℕ) {ordered : List Float} → a ≡ top_done groups read → length order ≡ n → ordered ≡ matrix_of (cell_through book n order) (length order)
         → ◌≡◌ {A = Outcome}
         (record { answer = answer_of (Ok (record { groups = groups; draws = read })); lists = record { order = order; sizes = sizes; scores = scores; ordered = ordered; floats = floats'; numbers = wi' } })
         (ran book n r l)
@@ -145,7 +145,7 @@ module _ (book : List Float) (n : ℕ) (r : Run) (l : Lists) {a : Result Top Sto
             rw (matrix, eo, es, ec, floats_wiped, numbers_wiped, p.0, p.1) refl
 
   -- each number of the order is a name
-  pub order_below : (groups read : ℕ) → a ≡ top groups read → Whole n r → (j : ℕ) → j < length order → numbers order j < n
+  pub order_below : (groups read : ℕ) → a ≡ top_done groups read → Whole n r → (j : ℕ) → j < length order → numbers order j < n
   order_below groups read is = by r h.answer_is h.ordered
     where
       by : (r : Run) → a ≡ top_of r → order ≡ order_after r l.order → Whole n r → (j : ℕ) → j < length order → numbers order j < n

@@ -28,7 +28,7 @@ use Rattle.plusplus_seeded.specs.Sources.{given}
 use Rattle.round.specs.Made.{own_given, own_moved, round_given}
 use Rattle.round.specs.Steps.{round_start, Stood, RoundStarted, Starts, BaseAt, round_start_of}
 use Rattle.round_end.specs.Steps.{InnerEnded, RoundEnded}
-use Rattle.round_top.specs.Steps.{top, Ready, RoundLeaves, top_of, order_after, sizes_after, scores_after}
+use Rattle.round_top.specs.Steps.{top_done, Ready, RoundLeaves, top_of, order_after, sizes_after, scores_after}
 use Rattle.round.proofs.Runs.{weak_in, OpeningTook, opening_took, Whole, whole, round_none, round_refused, round_kept, round_again}
 use Rattle.round.proofs.Sourced.{later_made, source_started, source_unstarted, later_again, stood_behind}
 use Rattle.round.proofs.Standing.{stands_state, stands_cut, stands_parted, stands_plain}
@@ -39,7 +39,7 @@ start_parts g h k l v w n m e =
     let r : ◌≡◌ {A = RoundStart} (record { groups = g; weak = k; items = v; source = n }) (record { groups = h; weak = l; items = w; source = m }) = cc in
     (ap (λ (x : RoundStart). x.groups) r, ap (λ (x : RoundStart). x.weak) r, ap (λ (x : RoundStart). x.items) r, ap (λ (x : RoundStart). x.source) r)
 
-pub top_parts : (g h r s : ℕ) → top g r ≡ top h s → (g ≡ h) × (r ≡ s)
+pub top_parts : (g h r s : ℕ) → top_done g r ≡ top_done h s → (g ≡ h) × (r ≡ s)
 top_parts g h r s e =
     let t : ◌≡◌ {A = Top} (record { groups = g; read = r }) (record { groups = h; read = s }) = cc in
     (ap (λ (x : Top). x.groups) t, ap (λ (x : Top). x.read) t)
@@ -189,7 +189,7 @@ module _ (book : List Float) (n repeats : ℕ) (draws : List ℕ) (src : Source)
         opens = source_started book n repeats (left - 1) rows two_rows src draws S.base S.rest S.opened
 
         pub kept_law : (order' sizes' : List ℕ) (scores' : List Float) → weak ≤ 2 → order' ≡ part n m wi₁ → sizes' ≡ part (2 * n) m wi₁ → scores' ≡ take m wf₁
-            → RoundLeaves run n left (top groups a.at) order order' sizes sizes' scores scores' wi wi₁ wf wf₁
+            → RoundLeaves run n left (top_done groups a.at) order order' sizes sizes' scores scores' wi wi₁ wf wf₁
         kept_law order' sizes' scores' h eo ez es =
             let b = S.base in
             let less : weak_in S.base ≤ 2 = omega (arith, h, S.weak_is) in
@@ -198,7 +198,7 @@ module _ (book : List Float) (n repeats : ℕ) (draws : List ℕ) (src : Source)
             ∙ ap (λ (x : ℕ). done S.base (x ∷ []) moved.at later) rows_len
             ∙ ap (λ (x : Source). done S.base (m ∷ []) x.at later) (sym S.told) in
             rw r (record {
-              answer_is = ap (λ (x : ℕ). top x a.at) S.count;
+              answer_is = ap (λ (x : ℕ). top_done x a.at) S.count;
               ordered = eo ∙ S.base_at.order_at;
               sized = ez ∙ S.base_at.sizes_at;
               scored = es ∙ S.base_at.scores_at;
@@ -379,7 +379,7 @@ module _ (book : List Float) (n repeats : ℕ) (draws : List ℕ) (src : Source)
               pub inside : PartitionLists w g (take w order₂) (take w sizes₂)
               pub groups_are : cut g (take w sizes₂) (take w order₂) ≡ state.groups
 
-            of_done : (r : Run) (g last : ℕ) → inner ≡ r → Whole w r → b ≡ top g last → b ≡ top_of r → lo ≡ order_after r (take w order)
+            of_done : (r : Run) (g last : ℕ) → inner ≡ r → Whole w r → b ≡ top_done g last → b ≡ top_of r → lo ≡ order_after r (take w order)
                 → lz ≡ sizes_after (length (take w order)) r (take w sizes) → Inner g last
             of_done (ended q ms) g last e p eb ea eo ez = let z : ◌≡◌ {A = ℕ} 0 1 = cc in absurd (omega arith)
             of_done (done h ms q rest) g last e p eb ea eo ez =
@@ -399,7 +399,7 @@ module _ (book : List Float) (n repeats : ℕ) (draws : List ℕ) (src : Source)
                   groups_are = stands_cut w h small p.0 eg fo fz;
                 }
 
-            pub inner_law : (g last : ℕ) → b ≡ top g last → Inner g last
+            pub inner_law : (g last : ℕ) → b ≡ top_done g last → Inner g last
             inner_law g last eb =
                 let two : 2 ≤ length inner_rows = omega (arith, inner_rows_len, w_many) in
                 of_done inner g last refl (subst (λ (x : ℕ). Whole x inner) inner_rows_len (whole book n repeats (left - 1) inner_rows a.at (round_given a draws book n repeats (left - 1) inner_rows) two)) eb I.answer_is I.ordered I.sized
@@ -458,11 +458,11 @@ module _ (book : List Float) (n repeats : ℕ) (draws : List ℕ) (src : Source)
                   ∙ ap (λ (x : List (List ℕ)). better_of (dist_at book n rows) m S.base x) N.groups_are
 
               pub done_law : (r : ℕ) (order' sizes' : List ℕ) (scores' wf₅ : List Float) → RoundEnded better n left r (length order₂) order' sizes' scores' wf₄ wf₅
-                  → RoundLeaves run n left (top r last) order order' sizes sizes' scores scores' wi wi₄ wf wf₅
+                  → RoundLeaves run n left (top_done r last) order order' sizes sizes' scores scores' wi wi₄ wf wf₅
               done_law r order' sizes' scores' wf₅ T =
                   let e : run ≡ done (better_of (dist_at book n rows) m S.base N.state.groups) (m ∷ N.ms) last N.left_over = run_is ∙ ap after N.ended_as in
                   rw e (record {
-                    answer_is = ap (λ (x : ℕ). top x last) (T.groups_are ∙ ap (λ (s : State). length s.groups) better_is);
+                    answer_is = ap (λ (x : ℕ). top_done x last) (T.groups_are ∙ ap (λ (s : State). length s.groups) better_is);
                     ordered = T.ordered ∙ ap (λ (s : State). joined s.groups) better_is;
                     sized = T.sized ∙ ap (λ (x : ℕ). sizes_of x better.groups) len₂ ∙ ap (λ (s : State). sizes_of m s.groups) better_is;
                     scored = T.scored ∙ ap (λ (s : State). s.scores) better_is;

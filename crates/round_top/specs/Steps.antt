@@ -9,12 +9,12 @@ use Rattle.round_top.specs.declared.Top.{Top}
 use Rattle.draws.specs.declared.Stop.{Stop}
 
 -- the answer of a round that nothing stopped
-abbrev pub top : ℕ → ℕ → Result Top Stop
-top groups read = Ok (record { groups = groups; read = read })
+abbrev pub top_done : ℕ → ℕ → Result Top Stop
+top_done groups read = Ok (record { groups = groups; read = read })
 
 -- the answer of a round, and what it leaves in the outputs: a run that ended leaves them as they were
 abbrev pub top_of : Run → Result Top Stop
-top_of (done s ms read rest) = top (length s.groups) read
+top_of (done s ms read rest) = top_done (length s.groups) read
 top_of (ended s ms) = Err s
 
 abbrev pub order_after : Run → List ℕ → List ℕ

@@ -13,17 +13,17 @@ use Rattle.lists.specs.Sums.{all_to}
 use Rattle.lists.proofs.Sums.{all_fails, all_true}
 use Rattle.lists.proofs.Tests.{both}
 use Rattle.text_digits.proofs.Scan.{in_text, stop_positive}
-use Rattle.text_layout.specs.Layout.{field_ok, line_at, number, plain, small_at, start_of, value_of}
+use Rattle.text_layout.specs.Layout.{field_ok, line_at, small_number, plain, small_at, start_of, value_of}
 use Rattle.text_layout.specs.declared.Form.{Form}
 
 -- a number of the first line: k digits at p with the number v, up to e
 module _ (s : List ℕ) (p bound stop v k e : ℕ) (hv : v ≡ spelled 10 s p k) (hk : k ≡ run_of 10 s p 19) (he : e ≡ p + k) where
   small_is :
-      cond (plain (byte_at s p) k) (cond (leb v bound) (cond (eqb (byte_at s e) stop) (number v (e + 1)) None) None) None ≡ small_at s p bound stop
+      cond (plain (byte_at s p) k) (cond (leb v bound) (cond (eqb (byte_at s e) stop) (small_number v (e + 1)) None) None) None ≡ small_at s p bound stop
   unfolding small_at
   small_is = rw (hv, he, hk)
 
-  pub small_read : plain (byte_at s p) k ≡ true → v ≤ bound → byte_at s e ≡ stop → number v (e + 1) ≡ small_at s p bound stop
+  pub small_read : plain (byte_at s p) k ≡ true → v ≤ bound → byte_at s e ≡ stop → small_number v (e + 1) ≡ small_at s p bound stop
   small_read a b d = rw (← small_is, a, le-leb v bound b, eq-eqb (byte_at s e) stop d)
 
 -- field t of n: k digits from q to e

@@ -15,7 +15,7 @@ use lib.ListN.{length}
 use mathlib.Core.Logic.{by_cases}
 use Rattle.text_digits.specs.Digits.{byte_at, newline, run_of, space, spelled}
 use Rattle.lists.specs.Sums.{all_to}
-use Rattle.text_layout.specs.Layout.{cell_form, draw_form, empty_at, field_ok, head_of, layout_of, line_at, lists_of, number, plain, small_at, sizes, found, start_of}
+use Rattle.text_layout.specs.Layout.{cell_form, draw_form, empty_at, field_ok, head_of, layout_of, line_at, lists_of, small_number, plain, small_at, sizes, layout_found, start_of}
 use Rattle.text_layout.specs.declared.Form.{Form}
 use Rattle.text_layout.specs.declared.Small.{Small}
 use Rattle.text_layout.specs.declared.Head.{Head}
@@ -57,16 +57,16 @@ small_taken s p bound stop a e =
     let i = cond_some (eqb (byte_at s (p + k)) stop) _ a h.1 in
     rw (← i.1) (record { form = c.0; most = leb-true w bound h.0; ended = eqb-true (byte_at s (p + k)) stop i.0; value = refl; end = refl })
 
-pub small_read_at : (s : List ℕ) (p bound stop v q : ℕ) → small_at s p bound stop ≡ number v q → SmallRead s p bound stop v q
+pub small_read_at : (s : List ℕ) (p bound stop v q : ℕ) → small_at s p bound stop ≡ small_number v q → SmallRead s p bound stop v q
 small_read_at s p bound stop v q e = small_taken s p bound stop (record { value = v; end = q }) e
 
 -- the first line: the places behind its first two numbers, and its numbers
 pub record HeadRead (s : List ℕ) (n r d p : ℕ) : Type 0 where
   pub second : ℕ
   pub third : ℕ
-  pub names : small_at s 0 12 space ≡ number n second
-  pub repeats : small_at s second (2 ^ 32 - 1) space ≡ number r third
-  pub draws : small_at s third 1024 newline ≡ number d p
+  pub names : small_at s 0 12 space ≡ small_number n second
+  pub repeats : small_at s second (2 ^ 32 - 1) space ≡ small_number r third
+  pub draws : small_at s third 1024 newline ≡ small_number d p
 
 head_taken : (s : List ℕ) (h : Head) → head_of s ≡ Some h → HeadRead s h.names h.repeats h.draws h.end
 unfolding head_of
@@ -130,7 +130,7 @@ steps s l e =
     let c = cond_some (eqb b.v (length s)) _ l b.next in
     rw (← c.1) (record { head = h.is; cells = a.is; end = b.v; draws = b.is; last = eqb-true b.v (length s) c.0 })
 
-pub accepted : (s : List ℕ) (n r d p q : ℕ) → layout_of s ≡ found n r d p q → Accepted s n r d p q
+pub accepted : (s : List ℕ) (n r d p q : ℕ) → layout_of s ≡ layout_found n r d p q → Accepted s n r d p q
 accepted s n r d p q e =
     let l = steps s (record { names = n; repeats = r; draws = d; cells_at = p; draws_at = q }) e in
     record {

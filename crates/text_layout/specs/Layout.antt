@@ -18,8 +18,8 @@ o >>= f = option_and_then f o
 unfoldable pub plain : ℕ → ℕ → Bool
 plain first k = cond (eqb k 0) false (cond (eqb first 48) (eqb k 1) true)
 
-abbrev pub number : ℕ → ℕ → Option Small
-number v e = Some (record { value = v; end = e })
+abbrev pub small_number : ℕ → ℕ → Option Small
+small_number v e = Some (record { value = v; end = e })
 
 -- a decimal number at place p, at most `bound`, with no zero in front, and right behind it the byte `stop`:
 -- the number and the place behind that byte
@@ -27,7 +27,7 @@ unfoldable pub small_at : List ℕ → ℕ → ℕ → ℕ → Option Small
 small_at s p bound stop =
     cond (plain (byte_at s p) (run_of 10 s p 19))
     (cond (leb (spelled 10 s p (run_of 10 s p 19)) bound)
-    (cond (eqb (byte_at s (p + run_of 10 s p 19)) stop) (number (spelled 10 s p (run_of 10 s p 19)) (p + run_of 10 s p 19 + 1)) None)
+    (cond (eqb (byte_at s (p + run_of 10 s p 19)) stop) (small_number (spelled 10 s p (run_of 10 s p 19)) (p + run_of 10 s p 19 + 1)) None)
     None)
     None
 
@@ -80,15 +80,15 @@ line_at f s p n =
 
 -- ---- the three lines
 
-abbrev pub found : ℕ → ℕ → ℕ → ℕ → ℕ → Option Layout
-found n r d p q = Some (record { names = n; repeats = r; draws = d; cells_at = p; draws_at = q })
+abbrev pub layout_found : ℕ → ℕ → ℕ → ℕ → ℕ → Option Layout
+layout_found n r d p q = Some (record { names = n; repeats = r; draws = d; cells_at = p; draws_at = q })
 
 -- the two lists from p on, with nothing behind them
 unfoldable pub lists_of : List ℕ → ℕ → ℕ → ℕ → ℕ → Option Layout
 lists_of s n r d p = do
   q ← line_at cell_form s p (n * n)
   e ← line_at draw_form s q d
-  cond (eqb e (length s)) (found n r d p q) None
+  cond (eqb e (length s)) (layout_found n r d p q) None
 
 -- the sizes, and the places where the cells and the draws start
 unfoldable pub layout_of : List ℕ → Option Layout

@@ -7,7 +7,7 @@ use mathlib.Core.List.{List}
 use Rattle.refusals.specs.Table.{refused}
 use Rattle.text_request.specs.Request.{Requested, kept_lists, request_of}
 use Rattle.text_request.specs.Claim.{InLayout, LayoutClaim}
-use Rattle.text_layout.specs.Layout.{cell_form, draw_form, found, layout_of, value_of}
+use Rattle.text_layout.specs.Layout.{cell_form, draw_form, layout_found, layout_of, value_of}
 use Rattle.text_layout.specs.declared.Layout.{Layout}
 use Rattle.text_request.proofs.Gives.{fault_gives}
 use Rattle.text_request.proofs.Sound.{sound, sound_limits, width_at}
@@ -15,7 +15,7 @@ use Rattle.text_request.proofs.Complete.{complete}
 use Rattle.text_request.proofs.Lengths.{too_long}
 
 -- what a layout that is found says
-found_in : (s : List ℕ) (n r d p q : ℕ) → layout_of s ≡ found n r d p q → InLayout s
+found_in : (s : List ℕ) (n r d p q : ℕ) → layout_of s ≡ layout_found n r d p q → InLayout s
 found_in s n r d p q e =
     record {
       n = n;

@@ -22,7 +22,7 @@ use Rattle.text_digits.proofs.Lines.{length_more}
 use Rattle.text_digits.proofs.RoundTrip.{byte_behind, first_byte, number_back, run_back}
 use Rattle.text_digits.proofs.Places.{first_some, one_place, places_hold, places_short, places_some, width_ten}
 use Rattle.text_digits.proofs.Scan.{newline_no_digit, space_no_digit, stop_no_digit}
-use Rattle.text_layout.specs.Layout.{cell_form, draw_form, field_ok, found, head_of, layout_of, line_at, lists_of, number, plain, sizes, small_at, start_of, value_of}
+use Rattle.text_layout.specs.Layout.{cell_form, draw_form, field_ok, layout_found, head_of, layout_of, line_at, lists_of, small_number, plain, sizes, small_at, start_of, value_of}
 use Rattle.text_request.specs.Request.{read_as, request_of}
 use Rattle.text_request.specs.Written.{request_text}
 use Rattle.text_layout.specs.declared.Form.{Form}
@@ -112,7 +112,7 @@ plain_numeral v h =
 
 -- a number that is written is read
 pub small_back : (s A B : List ℕ) (v bound c q : ℕ) → s ≡ A ++ (numeral 10 v ++ (c ∷ B)) → v ≤ bound → bound < 10 ^ 19 → 10 ≤ digit_of c → q ≡ length A + length (numeral 10 v) + 1
-    → small_at s (length A) bound c ≡ number v q
+    → small_at s (length A) bound c ≡ small_number v q
 small_back s A B v bound c q e h l n w =
     let k = places_to 20 v in
     let e' : s ≡ A ++ (digits_of 10 k v ++ (c ∷ B)) = rw width_ten at e in
@@ -121,7 +121,7 @@ small_back s A B v bound c q e h l n w =
     let a : k ≡ run_of 10 s (length A) 19 = sym (run_back 10 (omega arith) (omega arith) A k v c B s e' 19 (places_short 20 18 v (omega arith) (omega arith)) n) in
     let x : v ≡ spelled 10 s (length A) k = sym (number_back 10 (omega arith) (omega arith) A k v c B s e' (places_hold 20 v big)) in
     let f : byte_at s (length A) ≡ get_or (digits_of 10 k v) 0 0 = first_byte 10 (omega arith) (omega arith) A k v c B s e' (places_some 19 v) in
-    sym (small_read s (length A) bound c v k (length A + k) x a refl (rw f (plain_numeral v big)) h (byte_behind 10 (omega arith) (omega arith) A k v c B s e')) ∙ ap (number v) (sym w')
+    sym (small_read s (length A) bound c v k (length A + k) x a refl (rw f (plain_numeral v big)) h (byte_behind 10 (omega arith) (omega arith) A k v c B s e')) ∙ ap (small_number v) (sym w')
 
 -- ---- a whole text
 
@@ -156,17 +156,17 @@ module _ (n r d : ℕ) (cell width draw : ℕ → ℕ) (limits : Limits n r d ce
       let no : 10 ≤ digit_of 32 = rw space_no_digit (omega arith) in
       let nl : 10 ≤ digit_of 10 = rw newline_no_digit (omega arith) in
       let repeats : r ≤ 2 ^ 32 - 1 = omega (arith, limits.repeats) in
-      let a : small_at s 0 12 space ≡ number n (length A) =
+      let a : small_at s 0 12 space ≡ small_number n (length A) =
       small_back s [] (P ++ (space ∷ (Q ++ (newline ∷ (K ++ L))))) n 12 space (length A) s₁ limits.names (omega arith) no (length_after [] N space) in
-      let b : small_at s (length A) (2 ^ 32 - 1) space ≡ number r (length B) =
+      let b : small_at s (length A) (2 ^ 32 - 1) space ≡ small_number r (length B) =
       small_back s A (Q ++ (newline ∷ (K ++ L))) r (2 ^ 32 - 1) space (length B) s₂ repeats (omega arith) no (length_after A P space) in
-      let c : small_at s (length B) 1024 newline ≡ number d (length C) =
+      let c : small_at s (length B) 1024 newline ≡ small_number d (length C) =
       small_back s B (K ++ L) d 1024 newline (length C) s₃ limits.count (omega arith) nl (length_after B Q newline) in
       let k = line_back cell_form (omega arith) (omega arith) (λ t. 16) cell (n * n) (λ t h. record { least = omega arith; most = omega arith; fits = limits.bits t h }) C s L s₄ in
       let l = line_back draw_form (omega arith) (omega arith) width draw d (λ t h. record { least = limits.least t h; most = limits.most t h; fits = limits.fits t h }) D s [] s₅ in
       let i : line_at cell_form s (length C) (n * n) ≡ Some (length D) = k.0 ∙ ap Some (sym (length-append C K)) in
       let end : length D + length L ≡ length s = sym (ap length (s₅ ∙ ap (λ (m : List ℕ). D ++ m) (append-nil L)) ∙ length-append D L) in
       let h : head_of s ≡ sizes n r d (length C) = rw (a, b, c) in
-      let e : layout_of s ≡ found n r d (length C) (length D) = rw (h, i, l.0, eq-eqb (length D + length L) (length s) end) in
+      let e : layout_of s ≡ layout_found n r d (length C) (length D) = rw (h, i, l.0, eq-eqb (length D + length L) (length s) end) in
       found_gives s cells draws n r d (length C) (length D) e
       ∙ as_same n r d (value_of cell_form s (length C)) cell (value_of draw_form s (length D)) draw k.1 l.1 cells draws

@@ -17,7 +17,7 @@ use Rattle.lists.specs.Lists.{listed}
 use Rattle.bits.specs.Bits.{double_of}
 use Rattle.lists.proofs.Listed.{listed_same}
 use Rattle.lists.proofs.Tests.{or-true}
-use Rattle.text_layout.specs.Layout.{cell_form, draw_form, field_ok, found, layout_of, value_of}
+use Rattle.text_layout.specs.Layout.{cell_form, draw_form, field_ok, layout_found, layout_of, value_of}
 use Rattle.refusals.specs.Table.{refused}
 use Rattle.text_request.specs.Request.{Answer, Requested, kept_lists, read_as, refusing, request_of, sizes_read}
 use Rattle.text_layout.specs.declared.Form.{Form}
@@ -56,7 +56,7 @@ module _ (s : List ℕ) (cells : List Float) (draws : List ℕ) where
   unfolding request_of
   fault_gives e = rw e
 
-  pub found_gives : (n r d p q : ℕ) → layout_of s ≡ found n r d p q
+  pub found_gives : (n r d p q : ℕ) → layout_of s ≡ layout_found n r d p q
       → request_of s cells draws ≡ read_as n r d (value_of cell_form s p) (value_of draw_form s q) cells draws
   unfolding request_of
   found_gives n r d p q e = rw e
@@ -65,7 +65,7 @@ module _ (s : List ℕ) (cells : List Float) (draws : List ℕ) where
 pub record ReadFrom (s : List ℕ) (cells : List Float) (draws : List ℕ) (n r d : ℕ) : Type 0 where
   pub p : ℕ
   pub q : ℕ
-  pub found : layout_of s ≡ found n r d p q
+  pub found : layout_of s ≡ layout_found n r d p q
   pub sizes : Within n r d
   pub cells_fit : n * n ≤ length cells
   pub draws_fit : d ≤ length draws
@@ -125,7 +125,7 @@ pub as_lent : {A : Type 0} (f : Form) (s : List ℕ) (l : List A) (p n : ℕ) �
     → all_to (field_ok f s p (length (take n l))) (length (take n l)) ≡ true
 as_lent f s l p n h e = rw (length-take-le n l h) e
 
-pub read_all : (s : List ℕ) (cells : List Float) (draws : List ℕ) (n r d p q : ℕ) → layout_of s ≡ found n r d p q → n * n ≤ length cells → d ≤ length draws
+pub read_all : (s : List ℕ) (cells : List Float) (draws : List ℕ) (n r d p q : ℕ) → layout_of s ≡ layout_found n r d p q → n * n ≤ length cells → d ≤ length draws
     → (cs : List Float) (ds : List ℕ) → cs ≡ listed (λ t. double_of (value_of cell_form s p t)) (length (take (n * n) cells))
     → ds ≡ listed (value_of draw_form s q) (length (take d draws))
     → record { answer = sizes_read n r d; cells = cs ++ drop (n * n) cells; draws = ds ++ drop d draws } ≡ request_of s cells draws

@@ -22,7 +22,7 @@ use Rattle.lists.proofs.Tests.{both, impossible}
 use Rattle.text_digits.proofs.Scan.{in_text, run_digits, run_le, spelled_lt, stop_positive}
 use Rattle.text_digits.proofs.Places.{one_place, places_exact, some_digit, spelled_low}
 use Rattle.text_digits.proofs.RoundTrip.{run_off}
-use Rattle.text_layout.specs.Layout.{cell_form, digits_at, draw_form, field_ok, found, head_of, layout_of, line_at, number, plain, sizes, small_at, start_of, value_of}
+use Rattle.text_layout.specs.Layout.{cell_form, digits_at, draw_form, field_ok, layout_found, head_of, layout_of, line_at, small_number, plain, sizes, small_at, start_of, value_of}
 use Rattle.text_request.specs.Written.{request_text}
 use Rattle.text_layout.specs.declared.Form.{Form}
 use Rattle.text_request.specs.Claim.{Limits}
@@ -92,7 +92,7 @@ width_exact s p (suc k) h e f =
     lt_ten : {x : ℕ} (k : ℕ) → k ≡ 0 → x < 10 ^ suc k → x < 10
     lt_ten k w h = let q = rw w at h in omega arith
 
-small_off : (s : List ℕ) (p bound c v q : ℕ) → 0 < c → small_at s p bound c ≡ number v q → drop p s ≡ numeral 10 v ++ (c ∷ drop q s)
+small_off : (s : List ℕ) (p bound c v q : ℕ) → 0 < c → small_at s p bound c ≡ small_number v q → drop p s ≡ numeral 10 v ++ (c ∷ drop q s)
 small_off s p bound c v q h e =
     let k = run_of 10 s p 19 in
     let a = small_read_at s p bound c v q e in
@@ -156,7 +156,7 @@ head_sound s n r d p e =
     (small_off s h.second (2 ^ 32 - 1) space r h.third (omega arith) h.repeats
     ∙ ap (λ (l : List ℕ). numeral 10 r ++ (space ∷ l)) (small_off s h.third 1024 newline d p (omega arith) h.draws))
 
-pub sound : (s : List ℕ) (n r d p q : ℕ) → layout_of s ≡ found n r d p q → s ≡ text_of s n r d p q
+pub sound : (s : List ℕ) (n r d p q : ℕ) → layout_of s ≡ layout_found n r d p q → s ≡ text_of s n r d p q
 unfolding request_text
 sound s n r d p q e =
     let l = steps s (record { names = n; repeats = r; draws = d; cells_at = p; draws_at = q }) e in
@@ -167,7 +167,7 @@ sound s n r d p q e =
 below : (x k : ℕ) → x < 16 ^ k → k ≡ 16 → x < 2 ^ 64
 below x k h e = let y : x < 16 ^ 16 = rw e at h in omega arith
 
-pub sound_limits : (s : List ℕ) (n r d p q : ℕ) → layout_of s ≡ found n r d p q
+pub sound_limits : (s : List ℕ) (n r d p q : ℕ) → layout_of s ≡ layout_found n r d p q
     → Limits n r d (value_of cell_form s p) (width_at draw_form s q) (value_of draw_form s q)
 sound_limits s n r d p q e =
     let a = accepted s n r d p q e in
