@@ -36,25 +36,6 @@ struct Case {
     next: usize,
 }
 
-// n words from `at` on, as doubles and as numbers.
-fn doubles_at(text: &[u8], at: usize, n: usize) -> [f64; 144]
-    requires { n ≤ 144 }
-    ensures { (144 ≡ length result) × (take n result ≡ doubles_from text.now at n) }
-{
-    let mut xs = lists::filled::<f64, 144>(7.0);
-    test_words::doubles(text, at, &mut xs[..n]);
-    xs
-}
-
-fn numbers_at(text: &[u8], at: usize, n: usize) -> [usize; 144]
-    requires { n ≤ 144 }
-    ensures { (144 ≡ length result) × (take n result ≡ words_from text.now at n) }
-{
-    let mut xs = lists::buffer::<usize, 144>(0);
-    test_words::numbers(text, at, &mut xs[..n]);
-    xs
-}
-
 // The case at `at`: eight words, and the expected answer after its two lists.
 fn read_case(text: &[u8], at: usize) -> Case
     requires { at ≤ 20000 }
@@ -270,9 +251,9 @@ fn right_case(text: &[u8], at: usize, c: Case) -> bool
     let n_b = c.b;
     let first = at + 8;
     let second = first + n_a;
-    let a = doubles_at(text, first, n_a);
-    let b = doubles_at(text, second, n_b);
-    let rows = numbers_at(text, second, n_b);
+    let a = test_words::doubles_at::<144>(text, first, n_a);
+    let b = test_words::doubles_at::<144>(text, second, n_b);
+    let rows = test_words::numbers_at::<144>(text, second, n_b);
     right_lists(text, c, &a[..n_a], &b[..n_b], &rows[..n_b])
 }
 

@@ -35,34 +35,6 @@ struct Case {
     next: usize,
 }
 
-// n words from `at` on, as doubles, as draws and as centres.
-fn points_at(text: &[u8], at: usize, n: usize) -> [f64; 256]
-    requires { n ≤ 256 }
-    ensures { (256 ≡ length result) × (take n result ≡ doubles_from text.now at n) }
-{
-    let mut xs = lists::buffer::<f64, 256>(7.0);
-    test_words::doubles(text, at, &mut xs[..n]);
-    xs
-}
-
-fn draws_at(text: &[u8], at: usize, n: usize) -> [u64; 64]
-    requires { n ≤ 64 }
-    ensures { (64 ≡ length result) × (take n result ≡ words_from text.now at n) }
-{
-    let mut xs = lists::buffer::<u64, 64>(0);
-    test_words::draws(text, at, &mut xs[..n]);
-    xs
-}
-
-fn centres_at(text: &[u8], at: usize, n: usize) -> [usize; 64]
-    requires { n ≤ 64 }
-    ensures { (64 ≡ length result) × (take n result ≡ words_from text.now at n) }
-{
-    let mut xs = lists::filled::<usize, 64>(999);
-    test_words::numbers(text, at, &mut xs[..n]);
-    xs
-}
-
 // The case at `at`: eight words, and the expected answer after its two lists.
 fn read_case(text: &[u8], at: usize) -> Case
     requires { at ≤ 20000 }
@@ -206,9 +178,9 @@ fn right_case(text: &[u8], at: usize, c: Case) -> bool
 {
     let first = at + 8;
     let second = first + c.points;
-    let points = points_at(text, first, c.points);
-    let draws = draws_at(text, second, c.list);
-    let centres = centres_at(text, second, c.list);
+    let points = test_words::doubles_at::<256>(text, first, c.points);
+    let draws = test_words::draws_at::<64>(text, second, c.list);
+    let centres = test_words::numbers_at::<64>(text, second, c.list);
     right_list(
         text,
         c,

@@ -23,25 +23,6 @@ use onc_answers::Onc;
 use test_counts::Counts;
 use test_run_cases::Case;
 
-// n words from `at` on, as cells and as draws.
-fn cells_at(text: &[u8], at: usize, n: usize) -> [f64; 144]
-    requires { n ≤ 144 }
-    ensures { (144 ≡ length result) × (take n result ≡ doubles_from text.now at n) }
-{
-    let mut xs = lists::buffer::<f64, 144>(7.0);
-    test_words::doubles(text, at, &mut xs[..n]);
-    xs
-}
-
-fn draws_at(text: &[u8], at: usize, n: usize) -> [u64; 2048]
-    requires { n ≤ 2048 }
-    ensures { (2048 ≡ length result) × (take n result ≡ words_from text.now at n) }
-{
-    let mut xs = lists::buffer::<u64, 2048>(0);
-    test_words::draws(text, at, &mut xs[..n]);
-    xs
-}
-
 // Whether a run's answer and the lists that it left are as recorded.
 fn same_run(
     text: &[u8],
@@ -169,8 +150,8 @@ fn right_case(text: &[u8], at: usize, c: Case) -> bool
 {
     let first = at + 12;
     let second = first + c.cells;
-    let cells = cells_at(text, first, c.cells);
-    let draws = draws_at(text, second, c.draws);
+    let cells = test_words::doubles_at::<144>(text, first, c.cells);
+    let draws = test_words::draws_at::<2048>(text, second, c.draws);
     right_lists(text, c, &cells[..c.cells], &draws[..c.draws])
 }
 

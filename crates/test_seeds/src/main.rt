@@ -17,16 +17,6 @@ use onc_answers::Onc;
 use test_counts::Counts;
 use test_run_cases::Case;
 
-// n words from `at` on, as cells.
-fn cells_at(text: &[u8], at: usize, n: usize) -> [f64; 144]
-    requires { n ≤ 144 }
-    ensures { (144 ≡ length result) × (take n result ≡ doubles_from text.now at n) }
-{
-    let mut xs = lists::buffer::<f64, 144>(7.0);
-    test_words::doubles(text, at, &mut xs[..n]);
-    xs
-}
-
 // Whether a run's answer and the lists that it left are as recorded.
 fn same_run(
     text: &[u8],
@@ -196,7 +186,7 @@ fn right_case(text: &[u8], at: usize, c: Case) -> bool
 {
     let first = at + 12;
     let second = first + c.cells;
-    let cells = cells_at(text, first, c.cells);
+    let cells = test_words::doubles_at::<144>(text, first, c.cells);
     let seed = test_words::word_from(text, second, 0);
     right_lists(text, c, &cells[..c.cells], seed)
 }

@@ -1,7 +1,7 @@
 // The words of a text, one a line of 16 hex digits, for the programs that run recorded cases.
 #![tactic(auto)]
 
-ghost use Rattle.std.specs.Prelude.{◌≤◌, ◌≡◌, length};
+ghost use Rattle.std.specs.Prelude.{take, ◌≤◌, ◌≡◌, length};
 ghost use Rattle.test_words.specs.Words.{hex_digit_of, with_digit, value_of, word_at, word_from, size_from, doubles_from, words_from};
 
 // The value of a digit, 0 to 9 or a to f; of any other byte some value below 16.
@@ -93,4 +93,32 @@ pub fn draws(text: &[u8], at: usize, xs: &mut [u64])
     for i in 0..xs.len() {
         xs[i] = word_from(text, at, i);
     }
+}
+
+// The first n words from `at` on, in front of a list of N places: as doubles, as numbers and as draws.
+pub fn doubles_at<const N: usize>(text: &[u8], at: usize, n: usize) -> [f64; N]
+    requires { (n ≤ N) × (N ≤ 65536) }
+    ensures { (N ≡ length result) × (take n result ≡ doubles_from text.now at n) }
+{
+    let mut xs = lists::buffer::<f64, N>(0.0);
+    doubles(text, at, &mut xs[..n]);
+    xs
+}
+
+pub fn numbers_at<const N: usize>(text: &[u8], at: usize, n: usize) -> [usize; N]
+    requires { (n ≤ N) × (N ≤ 65536) }
+    ensures { (N ≡ length result) × (take n result ≡ words_from text.now at n) }
+{
+    let mut xs = lists::buffer::<usize, N>(0);
+    numbers(text, at, &mut xs[..n]);
+    xs
+}
+
+pub fn draws_at<const N: usize>(text: &[u8], at: usize, n: usize) -> [u64; N]
+    requires { (n ≤ N) × (N ≤ 65536) }
+    ensures { (N ≡ length result) × (take n result ≡ words_from text.now at n) }
+{
+    let mut xs = lists::buffer::<u64, N>(0);
+    draws(text, at, &mut xs[..n]);
+    xs
 }
