@@ -52,7 +52,7 @@ fault_of cells n = whenever (ltb (first_fault cells n) (n * n)) (record { number
 abbrev pub shape_of : ℕ → ℕ → ℕ → Bool → Refusal
 shape_of rows cols cells fits = unless (eqb rows cols) (refused 2) (refusal cells rows rows fits 0 0)
 
--- the number of a book's own shape for that of `shape_of`, where 6 does not come
+-- the number of a book that is refused by its shape, from the number of `shape_of`; 6 cannot come, since no other list is asked about
 unfoldable pub shape_number : ℕ → ℕ
 shape_number k = cond (eqb k 2) 2 (cond (eqb k 4) 4 5)
 

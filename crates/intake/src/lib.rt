@@ -73,7 +73,7 @@ pub fn check_shape(rows: usize, cols: usize, cells: usize, fits: bool) -> Answer
     refusals::check(cells, rows, rows, fits, 0, 0)
 }
 
-// Why a book of another shape is not proper.
+// The refusal of a book by its shape.
 #[tactic(auto, using(std::proofs::lemmas::Bool::Decides::nat_tests), unfolding(crate::specs::Intake::shape_number))]
 fn shape_error(cause: Cause) -> IntakeError
     ensures { refusal_of (Err result) ≡ refused (shape_number (shapeNumberOf (Err cause))) }

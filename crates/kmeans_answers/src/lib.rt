@@ -23,10 +23,10 @@ pub enum KmeansError {
     Stopped(Stop),
 }
 
-// What a leaf answers: the draws read, or why not.
+// What a leaf answers: the number of draws read, or the row of the table that refuses the call.
 pub type Kmeans = Result<usize, KmeansError>;
 
-// The same row; a number out of range is a centre.
+// The same row of the table; a number out of range is that of a centre.
 impl From<Cause> for KmeansError {
     ghost from_gives = { λ c e. e ≡ error_of c };
 

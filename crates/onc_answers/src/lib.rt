@@ -28,7 +28,7 @@ pub enum OncError {
 // What the grouping answers.
 pub type Onc = Result<Grouped, OncError>;
 
-// What ended a run, as its row.
+// What ended a run, as a refusal of the grouping.
 impl From<Stop> for OncError {
     ghost from_gives = { λ s e. e ≡ Stopped s };
 

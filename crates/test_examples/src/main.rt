@@ -7,10 +7,9 @@
 // only the working list is not as it must be, the line starts with the case's number.
 #![tactic(auto)]
 
-ghost use Rattle.std.specs.Prelude.{◌+◌, ◌<◌, ◌≤◌, ◌≡◌, ◌&&◌, length, take, replicate};
+ghost use Rattle.std.specs.Prelude.{◌+◌, ◌<◌, ◌≤◌, ◌≡◌, ◌&&◌, length, replicate};
 ghost use Rattle.refusals.specs.Table.{refusal_of};
 ghost use Rattle.stats.specs.Average.{averaged_of};
-ghost use Rattle.test_words.specs.Words.{doubles_from, words_from};
 ghost use Rattle.test_compared.specs.Compared.{seven, same_numbers, same_doubles};
 ghost use Rattle.test_examples.specs.Cases.{case_at, average_of, measured_of, measured_by, first_root, half, value_of, list_of, names_of, same_outcome, right_value, right_leaf, right_lists, right_case, counts_in};
 

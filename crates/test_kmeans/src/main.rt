@@ -11,10 +11,8 @@
 // expected and as found, then the case's number from 1, its leaf as the kind, and the words from which to which it stands.
 #![tactic(auto)]
 
-ghost use Rattle.std.specs.Prelude.{◌<◌, ◌≤◌, ◌≡◌, [], ◌∷◌, length, take, replicate};
+ghost use Rattle.std.specs.Prelude.{◌<◌, ◌≤◌, ◌≡◌, [], ◌∷◌, length};
 ghost use Rattle.kmeans_answers.specs.Answers.{refusal_of, read_of};
-ghost use Rattle.test_words.specs.Words.{doubles_from, words_from};
-ghost use Rattle.test_compared.specs.Compared.{seven};
 ghost use Rattle.test_kmeans.specs.Cases.{case_at, leaf_of, same_answer, right_leaf, right_lists, right_case, counts_in};
 
 use kmeans_answers::Kmeans;

@@ -2,7 +2,7 @@
 // 256 rows pass: the run is refused by 7, for its draws. 257 are refused by 4.
 #![tactic(auto)]
 
-ghost use Rattle.std.specs.Prelude.{◌≤◌, ◌≡◌, length};
+ghost use Rattle.std.specs.Prelude.{◌≤◌};
 
 use onc_answers::Onc;
 

@@ -12,10 +12,9 @@
 // case's number from 1, its kind, and the words from which to which it stands. harness/grouping/run.sh records the cases.
 #![tactic(auto)]
 
-ghost use Rattle.std.specs.Prelude.{◌<◌, ◌≤◌, ◌≡◌, length, take, replicate};
+ghost use Rattle.std.specs.Prelude.{◌<◌, ◌≤◌, ◌≡◌, length, replicate};
 ghost use Rattle.onc_answers.specs.Answers.{answer_of};
 ghost use Rattle.onc.specs.Onc.{group_of};
-ghost use Rattle.test_words.specs.Words.{doubles_from, words_from};
 ghost use Rattle.test_compared.specs.Compared.{seven};
 ghost use Rattle.test_runs.specs.Runs.{right_run, right_lists, right_case, counts_in};
 

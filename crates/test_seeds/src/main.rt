@@ -6,10 +6,9 @@
 // differs is printed as in test_runs. harness/grouping/run.sh records the cases.
 #![tactic(auto)]
 
-ghost use Rattle.std.specs.Prelude.{◌<◌, ◌≤◌, ◌≡◌, length, take, replicate};
+ghost use Rattle.std.specs.Prelude.{◌<◌, ◌≤◌, ◌≡◌, length, replicate};
 ghost use Rattle.onc_answers.specs.Answers.{answer_of};
 ghost use Rattle.onc.specs.Onc.{seeded_of};
-ghost use Rattle.test_words.specs.Words.{doubles_from};
 ghost use Rattle.test_compared.specs.Compared.{seven};
 ghost use Rattle.test_seeds.specs.Seeds.{seed_of, right_run, right_lists, right_case, counts_in};
 

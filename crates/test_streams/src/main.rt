@@ -2,7 +2,7 @@
 // draft-strombergson-chacha-test-vectors-01 (12 rounds: TC1, TC2, TC3, of four blocks the first two). The draws are those of the unchanged crate rand 0.10.
 #![tactic(auto)]
 
-ghost use Rattle.std.specs.Prelude.{◌≤◌, ◌<◌, ◌^◌, ◌+◌, ◌*◌, ◌≡◌, length};
+ghost use Rattle.std.specs.Prelude.{◌≤◌, ◌<◌, ◌+◌, ◌*◌, length};
 ghost use Rattle.rng_std.specs.States.{Holds};
 
 // The 16 words from place `at` on, in hex, on one line.

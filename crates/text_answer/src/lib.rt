@@ -9,7 +9,7 @@ ghost use Rattle.text_answer.specs.Answer.{line_text, sizes_text, grouped_text, 
 
 use text_written::{ListLength, Written};
 
-// The bytes that a list to write to has at least.
+// The least length of a list that an answer is written to.
 const ROOM: usize = 1024;
 
 // Each `put_` function below writes from a place on, and answers the place behind what it wrote.

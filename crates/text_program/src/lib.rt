@@ -1,8 +1,7 @@
 // What the grouping program prints for the text that it reads.
 #![tactic(auto)]
 
-ghost use Rattle.std.specs.Prelude.{◌≡◌, ◌*◌, ◌≤◌, length, replicate};
-ghost use Rattle.lists.specs.Sums.{zero64};
+ghost use Rattle.std.specs.Prelude.{◌≡◌, ◌*◌, ◌≤◌, length};
 ghost use Rattle.text_written.specs.Answers.{refusal_of, bytes_of};
 ghost use Rattle.text_answer.specs.Answer.{refusal_fits, written_of};
 ghost use Rattle.text_program.specs.Program.{book_text, program_of};
