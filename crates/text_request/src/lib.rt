@@ -75,7 +75,10 @@ pub fn read_request(
     let layout = text_layout::layout_of(text).ok_or(RequestError::Fault)?;
     let size = layout.names * layout.names;
     let count = layout.draws;
-    if cells.len() < size || draws.len() < count {
+    if cells.len() < size {
+        return Err(RequestError::ListLength);
+    }
+    if draws.len() < count {
         return Err(RequestError::ListLength);
     }
     fill_cells(text, layout.cells_at, &mut cells[..size]);
