@@ -47,12 +47,12 @@ fn candidate(
     ensures area_unchanged { take (4 * (m * m)) area.new ≡ take (4 * (m * m)) area.old }
     ensures rng_of { RngOf (seed_moved (points_at area.old m) m k src) rng.new }
 {
-    let next = kmeans::labels_by(area, m, k, draws, src, labels, rng)?;
+    let labelled = kmeans::labels_by(area, m, k, draws, src, labels, rng)?;
     silhouette_areas::scores_in(area, m, labels, k, scores);
     let stat = tstat::tstat_value(scores);
     let mean = tstat::mean_of_value(scores);
     Ok(Tried {
-        source: next.source,
+        source: labelled.source,
         stat,
         mean,
     })

@@ -138,7 +138,7 @@ fn cluster_on<const N: usize>(
 }
 
 // The labels of the m items in k groups, by the draws of the source. Inner form. The fifth area, the table, is left with
-// anything; a draw out of range leaves the labels as they were. Lists of 256 places take longer to make than a round of few items.
+// anything; a draw out of range leaves the labels as they were. Lists of 256 places take longer to make than a call for few items.
 pub fn labels_by(
     area: &mut [f64],
     m: usize,
@@ -179,9 +179,9 @@ pub fn labels_in(
         taken: 0,
     };
     let mut none = lists::buffer::<u32, 72>(0);
-    let next = labels_by(area, m, k, draws, src, labels, &mut none)?;
+    let labelled = labels_by(area, m, k, draws, src, labels, &mut none)?;
     Ok(Clustered {
-        at: next.source.at,
-        ended: next.ended,
+        at: labelled.source.at,
+        ended: labelled.ended,
     })
 }

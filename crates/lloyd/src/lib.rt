@@ -87,7 +87,8 @@ fn lloyd_on<const N: usize>(
 }
 
 // The groups of the m items, from the items `centres` as first centroids. The pass that changes no label ends it; after 300 passes it is cut.
-// Inner form, for the rounds. The table holds anything, before the call and after it.
+// Inner form, for the rounds. The table holds anything, before the call and after it. Lists of 256 places take longer to make than the passes over few
+// items, so at most 32 items have lists of 32.
 pub fn lloyd_in(area: &mut [f64], m: usize, centres: &[usize], labels: &mut [usize]) -> Ended
     requires held { Held area.old m }
     requires centres { Centres centres.now m × (length labels.old ≡ m) }

@@ -67,7 +67,7 @@ fn distances_with(
     distance_columns::squared_tail(mean, across, 0, out);
 }
 
-// The same, with N places of its own for the mean: a few items take little of the stack.
+// The same, with N places of its own for the mean: a list of 256 cells takes longer to make than the mean of few items.
 fn distances_on<const N: usize>(
     points: &[f64],
     across: &[f64],

@@ -84,7 +84,7 @@ fn refresh_on<const N: usize>(
     );
 }
 
-// The same, with a short list or a long one. `dists`, `sums` and the rows of the table behind the k-th are left with anything.
+// The same, with lists of 32 places for at most 32 items: lists of 256 take longer to make than a pass over few items. `dists`, `sums` and the rows of the table behind the k-th are left with anything.
 pub fn refresh(
     area: &mut [f64],
     old: &[usize],

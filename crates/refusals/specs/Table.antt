@@ -4,7 +4,7 @@ use Rattle.lists.specs.Sums.{zero64}
 use Rattle.refusals.specs.declared.Cause.{Cause}
 use Rattle.refusals.specs.declared.Cause.TheVariants.{InvalidCorrelationMatrix, TooLarge, CellCount, ListLength, OutOfRange}
 
--- what a call answers that gives no number: done, or why not
+-- the answer of a call that gives no value: Ok, or the row of the table that refuses it
 abbrev pub Answer : Type 0
 Answer = Result (Unit {0}) Cause
 

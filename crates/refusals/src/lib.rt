@@ -15,7 +15,7 @@ pub enum Cause {
     OutOfRange(usize),
 }
 
-// What a call answers that gives no number: done, or why not.
+// The answer of a call that gives no value: Ok, or the row of the table that refuses it.
 pub type Answer = Result<(), Cause>;
 
 // The table's number; 0 where nothing is refused.

@@ -37,7 +37,8 @@ fn scores_on<const N: usize>(area: &[f64], m: usize, labels: &[usize], k: usize,
     scores_with(area, m, labels, k, scores, &mut sums[..m], &mut own[..m]);
 }
 
-// The score of each item, where the labels are below k. Inner form.
+// The score of each item, where the labels are below k. Inner form. Lists of 256 places take longer to make than the scores of few items, so at most
+// 32 items have lists of 32.
 pub fn scores_in(area: &[f64], m: usize, labels: &[usize], k: usize, scores: &mut [f64])
     requires { Prepared area.now m × (length labels.now ≡ m) × (length scores.old ≡ m) × (k ≤ m) × ((i : ℕ) → i < m → numbers labels.now i < k) }
     ensures { scores.new ≡ scores_of (points_at area.now m) m (numbers labels.now) }

@@ -5,6 +5,7 @@
 ghost use Rattle.std.specs.Prelude.{◌≤◌};
 
 use onc_answers::Onc;
+use std::io;
 
 // The answer for a book of n names.
 fn asked(n: usize) -> Onc
@@ -34,19 +35,16 @@ fn asked(n: usize) -> Onc
     )
 }
 
-fn print_answer(n: usize)
+fn print_answer(rt: HostRuntime, n: usize) -> io::Result<()>
     requires { n ≤ 257 }
 {
     let a = asked(n);
-    io::print_decimal(1, n as u64);
-    io::write_all(1, b" names: refused ");
-    io::print_decimal(1, onc_answers::number_of(a) as u64);
-    io::write_all(1, b" at ");
-    io::print_decimal(1, onc_answers::place_of(a) as u64);
-    io::write_all(1, b"\n");
+    let number = onc_answers::number_of(a);
+    let place = onc_answers::place_of(a);
+    println!(rt; "{n} names: refused {number} at {place}")
 }
 
-fn main() {
-    print_answer(256);
-    print_answer(257);
+fn main(rt: HostRuntime) -> io::Result<()> {
+    print_answer(rt, 256)?;
+    print_answer(rt, 257)
 }

@@ -2,5 +2,5 @@ use Prim.Native.Nat.{◌*◌, ◌≤◌}
 use Rattle.rng_std.specs.States.{Holds}
 use Rattle.test_streams.proofs.print_pairs.Given as goal
 
-abbrev pub invariant-loop-j : goal.invariant-loop-j
-invariant-loop-j l = Holds l.taken l.rng × (l.taken ≤ 4 * l.j) × (l.j ≤ l.times)
+abbrev pub invariant-loop : goal.invariant-loop
+invariant-loop l = Holds l.taken l.rng × (l.taken ≤ 4 * l.counter) × (l.counter ≤ l.times)
