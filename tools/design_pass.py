@@ -85,7 +85,7 @@ for path in sorted(glob.glob(os.path.join(root, "crates/*/src/*.rt"))):
         s = shape(name, params, body)
         if len(s) > 24 or re.fullmatch(r"\{\[N;N\]\}", s):
             shapes[s].append(here)
-        for m in re.finditer(r"^ *(?:for (\w+) in (?![a-z&(]\w*\.)[^{\n]*\.\.[^{\n]* \{|while )", body, re.M):
+        for m in re.finditer(r"^ *(?:for \w+ in (?!&)(?![^{\n]*iter)[^{\n]*\.\.[^{\n]* \{|while )", body, re.M):
             places["3 loop"].append(here)
         if name in ("answered", "number_of", "place_of", "groups_of", "read_of", "bytes_of", "stop_number", "stop_place", "same_labels", "same_bytes", "same", "larger", "lesser", "shorter"):
             places["4 by hand"].append(here)
