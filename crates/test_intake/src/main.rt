@@ -161,20 +161,17 @@ fn made_answer(n: usize) -> Intake
     made_in(&mut cells[..count], n)
 }
 
-fn print_made(n: usize, a: Intake) {
-    io::print_decimal(1, n as u64);
-    io::write_all(1, b" names: ");
-    io::print_decimal(1, intake_answers::number_of(a) as u64);
-    io::write_all(1, b" at ");
-    io::print_decimal(1, intake_answers::place_of(a) as u64);
-    io::write_all(1, b"\n");
+fn print_made(rt: HostRuntime, n: usize, a: Intake) -> std::io::Result<()> {
+    let number = intake_answers::number_of(a);
+    let place = intake_answers::place_of(a);
+    println!(rt; "{n} names: {number} at {place}")
 }
 
-fn main() {
+fn main(rt: HostRuntime) -> std::io::Result<()> {
     let mut text = lists::buffer::<u8, 262144>(0);
     let n = io::read_full(0, &mut text);
     let counts = run(&text[..n]);
     test_counts::summary(counts, n, text.len());
-    print_made(256, made_answer(256));
-    print_made(257, made_answer(257));
+    print_made(rt, 256, made_answer(256))?;
+    print_made(rt, 257, made_answer(257))
 }
