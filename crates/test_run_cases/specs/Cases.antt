@@ -1,8 +1,9 @@
--- A recorded call of `get_onc_clusters_with_draws`, and whether an answer and the outputs are those recorded. Definitions only.
-use Rattle.std.specs.Prelude.{ℕ, ◌+◌, Bool, ◌&&◌, List, [], ◌∷◌, Float}
+-- A recorded call of the grouping, what is lent to it, and whether it answers and leaves what is recorded. Definitions only.
+use Rattle.std.specs.Prelude.{ℕ, ◌+◌, Bool, ◌&&◌, List, [], ◌∷◌, replicate, Float}
 use Rattle.test_words.specs.Words.{word_from, size_from}
-use Rattle.test_compared.specs.Compared.{same_numbers, same_doubles}
+use Rattle.test_compared.specs.Compared.{seven, same_numbers, same_doubles, names_wiped, left_lists}
 use Rattle.onc_answers.specs.Answers.{Answer}
+use Rattle.onc_run.specs.Run.{Lists, Outcome}
 use Rattle.test_run_cases.specs.declared.Case.{Case}
 
 -- the case at `at`: twelve words, the cells, the draws, and then the expected answer
@@ -37,3 +38,22 @@ same_outputs text c order sizes scores ordered =
     same_numbers text (c.expected + 4) order
     && (same_numbers text (c.expected + 4 + c.order) sizes
     && (same_doubles text (c.expected + 4 + c.order + c.sizes) scores && same_doubles text (c.expected + 4 + c.order + c.sizes + c.scores) ordered))
+
+-- whether the run answers and leaves what is recorded
+unfoldable pub right_run : List ℕ → Case → Outcome → Bool
+right_run text c o =
+    same_answer text c.expected o.answer
+    && (same_outputs text c o.lists.order o.lists.sizes o.lists.scores o.lists.ordered
+    && left_lists (names_wiped o.answer.refused.number c.rows) o.lists.floats o.lists.numbers)
+
+-- the lists that are lent, of the case's lengths
+abbrev pub lent_to : Case → Lists
+lent_to c =
+    record {
+      order = replicate c.order 999;
+      sizes = replicate c.sizes 999;
+      scores = replicate c.scores seven;
+      ordered = replicate c.ordered seven;
+      floats = replicate c.floats seven;
+      numbers = replicate c.numbers 999;
+    }

@@ -1,10 +1,10 @@
-// A recorded run of the grouping: the case in the text, and whether an answer and its outputs are as recorded. Inner forms, for
+// A recorded run of the grouping: the case in the text, and whether its answer and the lists that it left are as recorded. Inner forms, for
 // `test_runs` and `test_seeds`, whose first lines say how a case stands in the text.
 #![tactic(auto)]
 
 ghost use Rattle.std.specs.Prelude.{◌<◌, ◌≤◌, ◌≡◌, [], ◌∷◌};
 ghost use Rattle.onc_answers.specs.Answers.{answer_of};
-ghost use Rattle.test_run_cases.specs.Cases.{case_at, same_answer, same_outputs};
+ghost use Rattle.test_run_cases.specs.Cases.{case_at, same_answer, same_outputs, right_run};
 
 use onc_answers::Onc;
 
@@ -88,6 +88,7 @@ pub fn shown_answer(right: bool, text: &[u8], expected: usize, a: Onc) -> bool
 }
 
 // Whether the text has these outputs behind that, one after the other.
+#[tactic(auto, using(std::proofs::lemmas::Bool::Decides::nat_tests), unfolding(crate::specs::Cases::same_outputs))]
 pub fn same_outputs(
     text: &[u8],
     c: Case,
@@ -106,4 +107,36 @@ pub fn same_outputs(
         && test_compared::same_numbers(text, sizes_at, sizes)
         && test_compared::same_doubles(text, scores_at, scores)
         && test_compared::same_doubles(text, scores_at + c.scores, ordered)
+}
+
+// Whether a run's answer and the lists that it left are as recorded.
+#[tactic(auto, using(std::proofs::lemmas::Bool::Decides::nat_tests), unfolding(crate::specs::Cases::right_run))]
+pub fn same_run(
+    text: &[u8],
+    c: Case,
+    a: Onc,
+    order: &[usize],
+    sizes: &[usize],
+    scores: &[f64],
+    ordered: &[f64],
+    floats: &[f64],
+    numbers: &[usize],
+) -> bool
+    requires { (c.expected ≤ 94725) × (c.order ≤ 16) × (c.sizes ≤ 16) × (c.scores ≤ 16) }
+    ensures { result ≡ right_run text.now c (record {
+      answer = answer_of a;
+      lists = record {
+        order = order.now;
+        sizes = sizes.now;
+        scores = scores.now;
+        ordered = ordered.now;
+        floats = floats.now;
+        numbers = numbers.now;
+      };
+    }) }
+{
+    let names = test_compared::names_wiped(onc_answers::number_of(a), c.rows);
+    same_answer(text, c.expected, a)
+        && same_outputs(text, c, order, sizes, scores, ordered)
+        && test_compared::left_lists(names, floats, numbers)
 }

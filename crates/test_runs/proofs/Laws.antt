@@ -9,7 +9,8 @@ use Rattle.test_words.specs.Words.{doubles_from, words_from}
 use Rattle.test_compared.specs.Compared.{seven}
 use Rattle.onc.specs.Onc.{group_of}
 use Rattle.test_run_cases.specs.declared.Case.{Case}
-use Rattle.test_runs.specs.Runs.{right_run, right_lists, right_case}
+use Rattle.test_run_cases.specs.Cases.{right_run}
+use Rattle.test_runs.specs.Runs.{right_lists, right_case}
 
 -- working lists of equal cells were lent
 module _ (text : List ℕ) (c : Case) (cells : List Float) (draws : List ℕ) where

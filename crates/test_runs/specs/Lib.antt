@@ -1,3 +1,3 @@
--- What it means that a recorded run is answered as recorded (Runs.antt), by test_run_cases/specs/Cases.antt, test_words/specs/Words.antt,
--- test_compared/specs/Compared.antt and onc/specs/Onc.antt.
+-- What it means that a recorded run is answered as recorded (Runs.antt), by test_run_cases/specs/Cases.antt, test_words/specs/Words.antt
+-- and onc/specs/Onc.antt.
 pub mod Runs

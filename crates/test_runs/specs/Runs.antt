@@ -1,33 +1,13 @@
 -- A recorded call of `get_onc_clusters_with_draws`, and whether it answers and leaves what is recorded. Definitions only.
-use Rattle.std.specs.Prelude.{ℕ, ◌+◌, ◌/◌, Bool, ◌&&◌, List, length, replicate, Float}
+use Rattle.std.specs.Prelude.{ℕ, ◌+◌, ◌/◌, Bool, List, length, Float}
 use Rattle.test_words.specs.Words.{doubles_from, words_from}
-use Rattle.test_compared.specs.Compared.{seven, names_wiped, left_lists}
 use Rattle.test_counts.specs.Counting.{counts_by}
-use Rattle.onc_run.specs.Run.{Lists, Outcome}
 use Rattle.onc.specs.Onc.{group_of}
 use Rattle.test_counts.specs.declared.Counts.{Counts}
 use Rattle.test_run_cases.specs.declared.Case.{Case}
-use Rattle.test_run_cases.specs.Cases.{case_at, same_answer, same_outputs}
+use Rattle.test_run_cases.specs.Cases.{case_at, right_run, lent_to}
 
--- whether the run answers and leaves what is recorded
-unfoldable pub right_run : List ℕ → Case → Outcome → Bool
-right_run text c o =
-    same_answer text c.expected o.answer
-    && (same_outputs text c o.lists.order o.lists.sizes o.lists.scores o.lists.ordered
-    && left_lists (names_wiped o.answer.refused.number c.rows) o.lists.floats o.lists.numbers)
-
--- the lists that are lent, of the case's lengths
-abbrev pub lent_to : Case → Lists
-lent_to c =
-    record {
-      order = replicate c.order 999;
-      sizes = replicate c.sizes 999;
-      scores = replicate c.scores seven;
-      ordered = replicate c.ordered seven;
-      floats = replicate c.floats seven;
-      numbers = replicate c.numbers 999;
-    }
-
+-- whether the call on these cells, by these draws, answers and leaves what is recorded
 unfoldable pub right_lists : List ℕ → Case → List Float → List ℕ → Bool
 right_lists text c cells draws = right_run text c (group_of cells c.rows c.cols c.repeat draws (lent_to c))
 

@@ -13,45 +13,13 @@
 #![tactic(auto)]
 
 ghost use Rattle.std.specs.Prelude.{◌<◌, ◌≤◌, ◌≡◌, length, replicate};
-ghost use Rattle.onc_answers.specs.Answers.{answer_of};
 ghost use Rattle.onc.specs.Onc.{group_of};
 ghost use Rattle.test_compared.specs.Compared.{seven};
-ghost use Rattle.test_runs.specs.Runs.{right_run, right_lists, right_case, counts_in};
+ghost use Rattle.test_run_cases.specs.Cases.{right_run};
+ghost use Rattle.test_runs.specs.Runs.{right_lists, right_case, counts_in};
 
-use onc_answers::Onc;
 use test_counts::Counts;
 use test_run_cases::Case;
-
-// Whether a run's answer and the lists that it left are as recorded.
-fn same_run(
-    text: &[u8],
-    c: Case,
-    a: Onc,
-    order: &[usize],
-    sizes: &[usize],
-    scores: &[f64],
-    ordered: &[f64],
-    floats: &[f64],
-    numbers: &[usize],
-) -> bool
-    requires { (c.expected ≤ 94725) × (c.order ≤ 16) × (c.sizes ≤ 16) × (c.scores ≤ 16) }
-    ensures { result ≡ right_run text.now c (record {
-      answer = answer_of a;
-      lists = record {
-        order = order.now;
-        sizes = sizes.now;
-        scores = scores.now;
-        ordered = ordered.now;
-        floats = floats.now;
-        numbers = numbers.now;
-      };
-    }) }
-{
-    let names = test_compared::names_wiped(onc_answers::number_of(a), c.rows);
-    test_run_cases::same_answer(text, c.expected, a)
-        && test_run_cases::same_outputs(text, c, order, sizes, scores, ordered)
-        && test_compared::left_lists(names, floats, numbers)
-}
 
 // Makes the call, and compares what it answers and leaves.
 fn right_run(
@@ -79,7 +47,9 @@ fn right_run(
     let a = onc::get_onc_clusters_with_draws(
         cells, c.rows, c.cols, c.repeat, draws, order, sizes, scores, ordered, floats, numbers,
     );
-    let right = same_run(text, c, a, order, sizes, scores, ordered, floats, numbers);
+    let right = test_run_cases::same_run(
+        text, c, a, order, sizes, scores, ordered, floats, numbers,
+    );
     test_run_cases::shown_answer(right, text, c.expected, a)
 }
 

@@ -11,7 +11,8 @@ use Rattle.test_compared.specs.Compared.{seven}
 use Rattle.onc_run.specs.Run.{Lists, Outcome}
 use Rattle.onc.specs.Onc.{default_seed, seeded_of}
 use Rattle.test_run_cases.specs.declared.Case.{Case}
-use Rattle.test_seeds.specs.Seeds.{seed_of, right_run, right_lists, right_case}
+use Rattle.test_run_cases.specs.Cases.{right_run}
+use Rattle.test_seeds.specs.Seeds.{seed_of, right_lists, right_case}
 
 -- a case without a word for a seed was called without one, and a case with a word by that
 module _ (cells : List Float) (c : Case) (seed : ℕ) (l : Lists) {o : Outcome} where

@@ -1,37 +1,17 @@
 -- A recorded call of `get_onc_clusters_with_seed` or of `get_onc_clusters`, and whether it answers and leaves what is recorded. Definitions only.
-use Rattle.std.specs.Prelude.{ℕ, ◌+◌, ◌/◌, Bool, ◌&&◌, cond, List, eqb, length, replicate, Float}
+use Rattle.std.specs.Prelude.{ℕ, ◌+◌, ◌/◌, Bool, cond, List, eqb, length, Float}
 use Rattle.test_words.specs.Words.{word_from, doubles_from}
-use Rattle.test_compared.specs.Compared.{seven, names_wiped, left_lists}
 use Rattle.test_counts.specs.Counting.{counts_by}
-use Rattle.onc_run.specs.Run.{Lists, Outcome}
 use Rattle.onc.specs.Onc.{default_seed, seeded_of}
 use Rattle.test_counts.specs.declared.Counts.{Counts}
 use Rattle.test_run_cases.specs.declared.Case.{Case}
-use Rattle.test_run_cases.specs.Cases.{case_at, same_answer, same_outputs}
-
--- whether the run answers and leaves what is recorded
-unfoldable pub right_run : List ℕ → Case → Outcome → Bool
-right_run text c o =
-    same_answer text c.expected o.answer
-    && (same_outputs text c o.lists.order o.lists.sizes o.lists.scores o.lists.ordered
-    && left_lists (names_wiped o.answer.refused.number c.rows) o.lists.floats o.lists.numbers)
-
--- the lists that are lent, of the case's lengths
-abbrev pub lent_to : Case → Lists
-lent_to c =
-    record {
-      order = replicate c.order 999;
-      sizes = replicate c.sizes 999;
-      scores = replicate c.scores seven;
-      ordered = replicate c.ordered seven;
-      floats = replicate c.floats seven;
-      numbers = replicate c.numbers 999;
-    }
+use Rattle.test_run_cases.specs.Cases.{case_at, right_run, lent_to}
 
 -- the seed of a case that has a word for it, which is this; and of a case that has none, the seed of `get_onc_clusters`
 abbrev pub seed_of : Case → ℕ → ℕ
 seed_of c word = cond (eqb c.draws 0) default_seed word
 
+-- whether the call on these cells, by the seed of the case, answers and leaves what is recorded
 unfoldable pub right_lists : List ℕ → Case → List Float → ℕ → Bool
 right_lists text c cells word = right_run text c (seeded_of cells c.rows c.cols c.repeat (seed_of c word) (lent_to c))
 
