@@ -35,6 +35,12 @@ constants=$(size -A "$shared" | awk '$1 ~ /^\.(rodata|data\.rel\.ro)/ { bytes +=
 [ "$constants" -le 4096 ] || fail "libonc.so has $constants bytes of read-only data, over 4096"
 echo "read-only data: $constants bytes"
 
+# what a program that is linked without the C library has to supply
+needed=$(nm -u "$archive" | awk '$1 == "U" { print $2 }' | sort -u)
+others=$(echo "$needed" | grep -vx -e memcpy -e memset || true)
+[ -z "$others" ] || fail "the archive takes other names from outside than memcpy and memset: $others"
+echo "from outside:" $needed
+
 echo "== C"
 compile() {
   "${CC:-cc}" -std=c99 -pedantic -Wall -Wextra -Werror -Iinclude -o "$work/$(basename "$1" .c)" "$@"

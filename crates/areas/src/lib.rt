@@ -57,7 +57,7 @@ fn square_row(area: &mut [f64], m: usize, i: usize, sums: &mut [f64])
     lists::gather(area, third + i, m, at, i);
     let from = at + i;
     let end = at + m;
-    area[from..end].copy_from_slice(sums);
+    lists::copy(sums, &mut area[from..end]);
 }
 
 // The squared pair distances, row by row, each pair worked out once.

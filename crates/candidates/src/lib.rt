@@ -85,8 +85,8 @@ fn try_k(
     if !choice::replaces(stat, mean, kept) {
         return Ok(Searched { source, kept });
     }
-    labels.copy_from_slice(new_labels);
-    scores.copy_from_slice(new_scores);
+    lists::copy(new_labels, labels);
+    lists::copy(new_scores, scores);
     Ok(Searched {
         source,
         kept: Some(Kept { stat, mean }),

@@ -68,12 +68,18 @@ pub fn choose<'a>(
         × (sizes.new ≡ chosen new_mean old_mean old_sizes.now new_sizes.now)
         × (scores.new ≡ chosen new_mean old_mean old_scores.now new_scores.now) }
 {
-    order.copy_from_slice(check_improve_clusters(new_mean, old_mean, old_order, new_order));
-    sizes.copy_from_slice(check_improve_clusters(new_mean, old_mean, old_sizes, new_sizes));
+    lists::copy(
+        check_improve_clusters(new_mean, old_mean, old_order, new_order),
+        order,
+    );
+    lists::copy(
+        check_improve_clusters(new_mean, old_mean, old_sizes, new_sizes),
+        sizes,
+    );
     if new_mean > old_mean {
-        scores.copy_from_slice(new_scores);
+        lists::copy(new_scores, scores);
         return new_groups;
     }
-    scores.copy_from_slice(old_scores);
+    lists::copy(old_scores, scores);
     old_groups
 }

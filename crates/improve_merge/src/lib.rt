@@ -113,7 +113,7 @@ fn append_groups(
     row_numbers::translate(items, order, &mut out[from..end]);
     let first = kept.groups;
     let last = first + count;
-    counts[first..last].copy_from_slice(&sizes[..count]);
+    lists::copy(&sizes[..count], &mut counts[first..last]);
 }
 
 // The kept groups, then those of the inner book; answers how many they are. `items` has the weak items.

@@ -36,7 +36,7 @@ pub fn prepare(points: &[f64], m: usize, area: &mut [f64])
     ensures { Held area.new m × (take (m * m) area.new ≡ points.now) }
 {
     let first = m * m;
-    area[..first].copy_from_slice(points);
+    lists::copy(points, &mut area[..first]);
     let four = 4 * first;
     areas::squares_in(&mut area[..four], m);
 }

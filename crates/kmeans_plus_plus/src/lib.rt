@@ -31,7 +31,7 @@ fn centres_apart(
         ≡ took_of draws.now (seeding (squared_at (points_at area.now n) n) n (length centres.old) 0 draws.now) centres.old }
 {
     let next = kmeans::seed_in(area, n, draws, 0, found, weights)?;
-    centres.copy_from_slice(found);
+    lists::copy(found, centres);
     Ok(next)
 }
 

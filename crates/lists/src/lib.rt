@@ -1,4 +1,4 @@
-// Filling, copying, searching, reading and summing of lent lists, and tests on doubles: what the crates above share.
+// Copying, searching, reading and summing of lent lists, lists to work in, and tests on doubles: what the crates above share.
 // The inner forms ask for the lengths, which their callers know.
 #![tactic(auto)]
 
@@ -8,6 +8,18 @@ ghost use Rattle.std.specs.Float.Ieee.Scale.{finite};
 ghost use Rattle.lists.specs.Lists.{row, cells, cell_at, listed, matrix_of, put, first_from};
 ghost use Rattle.lists.specs.Sums as sums;
 ghost use Rattle.lists.specs.Sums.{counted, sum_to};
+
+// Copies the first list over the second. Inner form: they are as long as each other. The library's `copy_from_slice` does the same by `memmove`, which the
+// archives for C would then take from outside.
+pub fn copy<T: Copy>(from: &[T], to: &mut [T])
+    requires { length from.now ≡ length to.old }
+    ensures len { length to.new ≡ length to.old }
+    ensures after { to.new ≡ from.now }
+{
+    for (i, x) in from.iter().enumerate() {
+        to[i] = *x;
+    }
+}
 
 // Cells that lie `step` apart, copied one behind the other to a place further on in the same list. Inner form: the
 // cells that are read lie in front of `to`.
@@ -81,10 +93,10 @@ pub fn buffer<T: Copy, const N: usize>(x: T) -> [T; N]
 }
 
 // The same, with the elements promised.
-pub fn filled<T: Copy, const N: usize>(x: T) -> [T; N]
-    ensures { result ≡ replicate N x }
+pub fn filled<T: Copy, const N: usize>(value: T) -> [T; N]
+    ensures { result ≡ replicate N value }
 {
-    [x; N]
+    [value; N]
 }
 
 // +infinity.

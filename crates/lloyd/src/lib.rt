@@ -33,7 +33,7 @@ fn run(
             return Ended::Converged;
         }
         lloyd_pass::refresh(area, labels, fresh, k, dists, sums);
-        labels.copy_from_slice(fresh);
+        lists::copy(fresh, labels);
     }
     Ended::PassLimit
 }

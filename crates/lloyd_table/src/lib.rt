@@ -53,7 +53,7 @@ fn set_mean(area: &mut [f64], labels: &[usize], l: usize, n: usize, sums: &mut [
     let m = labels.len();
     let at = 4 * (m * m) + l * m;
     let end = at + m;
-    area[at..end].copy_from_slice(sums);
+    lists::copy(sums, &mut area[at..end]);
 }
 
 // Row l of the table for the next centroids, n being the size of group l. An empty group takes the farthest item, and one with a single member

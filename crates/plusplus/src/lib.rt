@@ -108,7 +108,7 @@ pub fn seed(
     let d = draws::draw_below(draws, at, m as u64)?;
     let c = d as usize;
     centres[0] = c;
-    weights.copy_from_slice(lists::row_of(squares, m, c));
+    lists::copy(lists::row_of(squares, m, c), weights);
     let mut sums = lists::buffer::<f64, 256>(0.0);
     more_centres(squares, draws, at + 1, centres, weights, &mut sums[..m])
 }

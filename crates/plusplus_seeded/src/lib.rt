@@ -127,7 +127,7 @@ pub fn seed_on(
     let first = rng_std::random_range(rng, taken, m as u32);
     let c = first.value as usize;
     centres[0] = c;
-    weights.copy_from_slice(lists::row_of(squares, m, c));
+    lists::copy(lists::row_of(squares, m, c), weights);
     let mut draws = lists::buffer::<u64, 8>(0);
     let mut sums = lists::buffer::<f64, 256>(0.0);
     more_from(

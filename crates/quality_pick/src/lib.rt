@@ -50,7 +50,7 @@ pub fn pick(
             continue;
         }
         let to = items + size;
-        out[items..to].copy_from_slice(&order[from..at]);
+        lists::copy(&order[from..at], &mut out[items..to]);
         out_sizes[groups] = size;
         groups += 1;
         items = to;

@@ -43,7 +43,7 @@ fn end_with(
     let third = from + m;
     let off = left * n;
     let end = off + 5 * (m * m);
-    old_scores.copy_from_slice(&wf[..m]);
+    lists::copy(&wf[..m], old_scores);
     let weak = improve_merge::weak_items(
         &wi[n..second],
         &wi[from..third],

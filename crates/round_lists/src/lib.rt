@@ -24,11 +24,11 @@ pub fn store_base(
 {
     let m = order.len();
     let end = n + m;
-    wi[n..end].copy_from_slice(order);
+    lists::copy(order, &mut wi[n..end]);
     let from = 2 * n;
     let last = from + m;
-    wi[from..last].copy_from_slice(sizes);
-    wf[..m].copy_from_slice(scores);
+    lists::copy(sizes, &mut wi[from..last]);
+    lists::copy(scores, &mut wf[..m]);
 }
 
 // The rows of the items, as rows of the book, at the front of the inner round's numbers; `rows` is a list to work in.
@@ -39,7 +39,7 @@ fn store_rows(n: usize, m: usize, items: &[usize], rows: &mut [usize], wi: &mut 
     row_numbers::translate(&wi[..m], items, rows);
     let from = 3 * n;
     let end = from + items.len();
-    wi[from..end].copy_from_slice(rows);
+    lists::copy(rows, &mut wi[from..end]);
 }
 
 // The weak items of the base, and their rows at the front of the inner round's numbers; `items` and `rows` are lists to work in.
@@ -107,9 +107,9 @@ pub fn keep(
 {
     let m = order.len();
     let end = n + m;
-    order.copy_from_slice(&wi[n..end]);
+    lists::copy(&wi[n..end], order);
     let from = 2 * n;
     let last = from + m;
-    sizes.copy_from_slice(&wi[from..last]);
-    scores.copy_from_slice(&wf[..m]);
+    lists::copy(&wi[from..last], sizes);
+    lists::copy(&wf[..m], scores);
 }

@@ -53,7 +53,7 @@ returns c =
     let h : replaces_kept stat mean a.kept ≡ true = sym c.replaces.ensures ∙ c.if-not-replaces.false in
     let t = try_new a.kept a.labels.now labels a.scores.now scored stat mean (points_at a.area.now a.m) a.m a.k a.src.at ds (seed_moved (points_at a.area.now a.m) a.m a.k a.src) q h in
     record {
-      searched_by = rw (c.copy_from_slice.ensures.after, c.copy_from_slice-2.ensures.after) t;
+      searched_by = rw (c.copy.ensures.after, c.copy-2.ensures.after) t;
       area_unchanged = c.candidate.ensures.area_unchanged;
       rng_of = c.candidate.ensures.rng_of;
     }

@@ -15,4 +15,4 @@ returns-in_err-next c =
 pub returns : goal.returns
 returns c =
     let s = rw c.requires.2 at c.in_ok-next.ensures in
-    centres_done (squared_at (points_at c.args.area.now c.args.n) c.args.n) c.args.n (length c.args.centres.now) c.requires.0.some (omega (arith, c.requires.1.two)) c.args.draws.now _ c.args.centres.now s c.copy_from_slice.ensures.after
+    centres_done (squared_at (points_at c.args.area.now c.args.n) c.args.n) c.args.n (length c.args.centres.now) c.requires.0.some (omega (arith, c.requires.1.two)) c.args.draws.now _ c.args.centres.now s c.copy.ensures.after

@@ -42,5 +42,5 @@ loop-t-preserved c =
     let r = table_now m c.args.area.now c.loop-t.area v.0 _ _ _ _ (rw g at c.refresh.ensures.table) in (
       (rw g at c.refresh.ensures.area_unchanged) ∙ v.0,
       go_on _ m _ _ v.2 e v.1 (sym (rw g at c.same_labels.ensures) ∙ c.if-same_labels.false),
-      after_more _ m _ _ v.2 e d r c.copy_from_slice.ensures.after,
+      after_more _ m _ _ v.2 e d r c.copy.ensures.after,
     )

@@ -34,9 +34,9 @@ pub row_of-requires : goal.row_of-requires
 row_of-requires c =
     (c.requires.few, omega (arith, c.requires.square), item (goal.at.row_of-requires c).Start (sym c.draw_below.ensures ∙ c.in_ok-d.was))
 
-pub copy_from_slice-requires : goal.copy_from_slice-requires
-copy_from_slice-requires c =
-    rw c.row_of.ensures (sym (first-row (goal.at.copy_from_slice-requires c).Start c.in_ok-d.d (item (goal.at.copy_from_slice-requires c).Start (sym c.draw_below.ensures ∙ c.in_ok-d.was))))
+pub copy-requires : goal.copy-requires
+copy-requires c =
+    rw c.row_of.ensures (first-row (goal.at.copy-requires c).Start c.in_ok-d.d (item (goal.at.copy-requires c).Start (sym c.draw_below.ensures ∙ c.in_ok-d.was)))
 
 pub returns-in_err-d : goal.returns-in_err-d
 returns-in_err-d c =
@@ -53,10 +53,10 @@ returns c =
     let d = c.in_ok-d.d in
     let q = table a.squares.now m in
     let v = sym c.draw_below.ensures ∙ c.in_ok-d.was in
-    let ws = c.copy_from_slice.new.self in
+    let ws = c.copy.new.to in
     let cs = set a.centres.now 0 d in
-    let w : ws ≡ listed (q d) m = c.copy_from_slice.ensures.after ∙ c.row_of.ensures ∙ listed_of nan (q d) m (row a.squares.now m d) (first-row (goal.at.returns c).Start d (item (goal.at.returns c).Start v)) (λ i l. refl) in
-    let n : length ws ≡ m = c.copy_from_slice.ensures.len in
+    let w : ws ≡ listed (q d) m = c.copy.ensures.after ∙ c.row_of.ensures ∙ listed_of nan (q d) m (row a.squares.now m d) (first-row (goal.at.returns c).Start d (item (goal.at.returns c).Start v)) (λ i l. refl) in
+    let n : length ws ≡ m = c.copy.ensures.len in
     let l : length cs ≡ k = length-set a.centres.now 0 d in
     let t : take 1 cs ≡ d ∷ [] = take-suc-set a.centres.now 0 d (omega (arith, c.requires.asked.two)) in
     let e : centres_of (table a.squares.now (length ws)) (length ws) (trials_of (length cs)) (length cs - 1) ws (take 1 cs) (a.at + 1) (drop (a.at + 1) a.draws.now) ≡ seeding q m k a.at (drop a.at a.draws.now) =

@@ -39,14 +39,14 @@ first-row s d h = row_long s.args.squares.now (length s.args.weights.now) d (ome
 pub row_of-requires : goal.row_of-requires
 row_of-requires c = (c.requires.0.few, omega (arith, c.requires.0.square), item (goal.at.row_of-requires c).After-random_range-first)
 
-pub copy_from_slice-requires : goal.copy_from_slice-requires
-copy_from_slice-requires c = rw c.row_of.ensures (sym (first-row (goal.at.copy_from_slice-requires c).Start c.random_range-first.result.value (item (goal.at.copy_from_slice-requires c).After-random_range-first)))
+pub copy-requires : goal.copy-requires
+copy-requires c = rw c.row_of.ensures (first-row (goal.at.copy-requires c).Start c.random_range-first.result.value (item (goal.at.copy-requires c).After-random_range-first))
 
 pub more_from-requires : goal.more_from-requires
 more_from-requires c =
     let p = c.requires.0 in
     let a = c.args in
-    let e = c.copy_from_slice.ensures.len in
+    let e = c.copy.ensures.len in
     let m = length a.weights.now in
     let h : m ≤ length c.buffer-sums.result = omega (arith, c.buffer-sums.ensures, p.few) in
     let t : c.trials-count.result ≤ length c.buffer-draws.result = omega (arith, c.buffer-draws.ensures, c.trials-count.ensures, trials_few (length a.centres.now)) in
@@ -69,10 +69,10 @@ returns c =
     let k = length a.centres.now in
     let d = c.random_range-first.result.value in
     let q = table a.squares.now m in
-    let ws = c.copy_from_slice.new.self in
+    let ws = c.copy.new.to in
     let cs = set a.centres.now 0 d in
-    let w : ws ≡ listed (q d) m = c.copy_from_slice.ensures.after ∙ c.row_of.ensures ∙ listed_of nan (q d) m (row a.squares.now m d) (first-row (goal.at.returns c).Start d (item (goal.at.returns c).After-random_range-first)) (λ i l. refl) in
-    let n : length ws ≡ m = c.copy_from_slice.ensures.len in
+    let w : ws ≡ listed (q d) m = c.copy.ensures.after ∙ c.row_of.ensures ∙ listed_of nan (q d) m (row a.squares.now m d) (first-row (goal.at.returns c).Start d (item (goal.at.returns c).After-random_range-first)) (λ i l. refl) in
+    let n : length ws ≡ m = c.copy.ensures.len in
     let l : length cs ≡ k = length-set a.centres.now 0 d in
     let t : take 1 cs ≡ d ∷ [] = take-suc-set a.centres.now 0 d (omega (arith, c.requires.0.two)) in
     let i = c.random_range-first.ensures in

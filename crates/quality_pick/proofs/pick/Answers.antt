@@ -33,13 +33,13 @@ offset_bounds-order-from c =
     let ends : c.loop-g.at + numbers c.args.sizes.now c.loop-g.g ≤ length c.args.out.now = omega (arith, sized_end c.requires.0 c.loop-g.g c.loop-g-test.true, c.loop-g.invariant.0) in
     omega (arith, c.requires.0.few)
 
-pub slice_bounds-copy_from_slice-end-in-loop-g : goal.slice_bounds-copy_from_slice-end-in-loop-g
-slice_bounds-copy_from_slice-end-in-loop-g c =
+pub slice_bounds-copy-end : goal.slice_bounds-copy-end
+slice_bounds-copy-end c =
     let ends : c.loop-g.at + numbers c.args.sizes.now c.loop-g.g ≤ length c.args.out.now = omega (arith, sized_end c.requires.0 c.loop-g.g c.loop-g-test.true, c.loop-g.invariant.0) in
     omega (arith, c.requires.0.items)
 
-pub slice_bounds-copy_from_slice-end : goal.slice_bounds-copy_from_slice-end
-slice_bounds-copy_from_slice-end c =
+pub slice_bounds-copy-end-in-loop-g : goal.slice_bounds-copy-end-in-loop-g
+slice_bounds-copy-end-in-loop-g c =
     let fits : c.loop-g.items + numbers c.args.sizes.now c.loop-g.g ≤ length c.args.out.now =
     omega (arith, sized_end c.requires.0 c.loop-g.g c.loop-g-test.true, c.loop-g.invariant.0, c.loop-g.invariant.1.ends, picked_ahead c.requires.0 (on_side c.args.qs.now c.args.limit c.args.below) c.loop-g.g (omega arith)) in
     omega (arith, c.loop-g.invariant.1.long)
@@ -68,7 +68,7 @@ loop-g-preserved c =
     let l = c.loop-g in
     let size = numbers a.sizes.now l.g in
     let whole : l.at + size - l.at ≡ size = omega arith in
-    let own = c.copy_from_slice.ensures.after ∙ cut_part (length a.qs.now) a.sizes.now a.order.now l.g c.loop-g-test.true l.invariant.0 whole in
+    let own = c.copy.ensures.after ∙ cut_part (length a.qs.now) a.sizes.now a.order.now l.g c.loop-g-test.true l.invariant.0 whole in
     let long = sym (cut_size c.requires.0 l.g c.loop-g-test.true) ∙ ap length (sym own) in
     let room : l.items + size - l.items ≡ size = omega arith in
     let end = ap (λ n. l.items + n) long in (

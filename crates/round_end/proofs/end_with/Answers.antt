@@ -16,5 +16,5 @@ returns c =
     let i : ℕ = c.args.left * n + 5 * (m * m) - c.args.left * n in
     let ei : i ≡ 5 * (m * m) = omega arith in
     let la : length c.improve_clusters-improved.new.area ≡ i = c.improve_clusters-improved.auto.area ∙ end_round_part _ _ _ _ _ _ _ _ _ _ _ c.requires.0 i ei in
-    end_round_law _ _ _ _ _ _ _ _ _ _ _ c.requires.0 k j c.copy_from_slice.new.self ek ej c.copy_from_slice.ensures.after _ _ _ _ _ c.weak_items-weak.ensures _ _ _ _ _ c.improve_clusters-improved.ensures i c.improve_clusters-improved.new.area ei la _ _ _ _
+    end_round_law _ _ _ _ _ _ _ _ _ _ _ c.requires.0 k j c.copy.new.to ek ej c.copy.ensures.after _ _ _ _ _ c.weak_items-weak.ensures _ _ _ _ _ c.improve_clusters-improved.ensures i c.improve_clusters-improved.new.area ei la _ _ _ _
     c.choose.ensures.0 c.choose.ensures.1 c.choose.ensures.2 c.choose.ensures.3

@@ -11,4 +11,4 @@ returns c =
     let k : c.args.n + m - c.args.n ≡ m = omega arith in
     let j : 2 * c.args.n + m - 2 * c.args.n ≡ m = omega arith in
     stored_law c.args.n c.args.order.now c.args.sizes.now c.args.scores.now c.args.wi.now c.args.wf.now c.requires.0 c.requires.1 c.requires.2
-    _ _ k j c.copy_from_slice.ensures.after c.copy_from_slice-2.ensures.after c.copy_from_slice-3.ensures.after
+    _ _ k j c.copy.ensures.after c.copy-2.ensures.after c.copy-3.ensures.after
