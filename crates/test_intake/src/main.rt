@@ -161,17 +161,18 @@ fn made_answer(n: usize) -> Intake
     made_in(&mut cells[..count], n)
 }
 
-fn print_made(rt: HostRuntime, n: usize, a: Intake) -> std::io::Result<()> {
+// Prints the answer for a made book. A line that cannot be written is left out, as `summary` leaves it out.
+fn print_made(rt: HostRuntime, n: usize, a: Intake) {
     let number = intake_answers::number_of(a);
     let place = intake_answers::place_of(a);
-    println!(rt; "{n} names: {number} at {place}")
+    let _ = println!(rt; "{n} names: {number} at {place}");
 }
 
-fn main(rt: HostRuntime) -> std::io::Result<()> {
+fn main(rt: HostRuntime) {
     let mut text = lists::buffer::<u8, 262144>(0);
     let n = io::read_full(0, &mut text);
     let counts = run(&text[..n]);
     test_counts::summary(counts, n, text.len());
-    print_made(rt, 256, made_answer(256))?;
-    print_made(rt, 257, made_answer(257))
+    print_made(rt, 256, made_answer(256));
+    print_made(rt, 257, made_answer(257));
 }

@@ -5,7 +5,6 @@
 ghost use Rattle.std.specs.Prelude.{◌≤◌};
 
 use onc_answers::Onc;
-use std::io;
 
 // The answer for a book of n names.
 fn asked(n: usize) -> Onc
@@ -35,16 +34,17 @@ fn asked(n: usize) -> Onc
     )
 }
 
-fn print_answer(rt: HostRuntime, n: usize) -> io::Result<()>
+// Prints the answer. A line that cannot be written is left out, and changes neither the next one nor the exit status.
+fn print_answer(rt: HostRuntime, n: usize)
     requires { n ≤ 257 }
 {
     let a = asked(n);
     let number = onc_answers::number_of(a);
     let place = onc_answers::place_of(a);
-    println!(rt; "{n} names: refused {number} at {place}")
+    let _ = println!(rt; "{n} names: refused {number} at {place}");
 }
 
-fn main(rt: HostRuntime) -> io::Result<()> {
-    print_answer(rt, 256)?;
-    print_answer(rt, 257)
+fn main(rt: HostRuntime) {
+    print_answer(rt, 256);
+    print_answer(rt, 257);
 }

@@ -95,7 +95,7 @@ pub fn draws(text: &[u8], at: usize, xs: &mut [u64])
     }
 }
 
-// The first n words from `at` on, in front of a list of N places: as doubles, as numbers and as draws.
+// The first n words from `at` on, in front of a list of N places, as doubles. Inner form, as the next two.
 pub fn doubles_at<const N: usize>(text: &[u8], at: usize, n: usize) -> [f64; N]
     requires { (n ≤ N) × (N ≤ 65536) }
     ensures { (N ≡ length result) × (take n result ≡ doubles_from text.now at n) }
@@ -105,6 +105,7 @@ pub fn doubles_at<const N: usize>(text: &[u8], at: usize, n: usize) -> [f64; N]
     xs
 }
 
+// The same as numbers. Inner form.
 pub fn numbers_at<const N: usize>(text: &[u8], at: usize, n: usize) -> [usize; N]
     requires { (n ≤ N) × (N ≤ 65536) }
     ensures { (N ≡ length result) × (take n result ≡ words_from text.now at n) }
@@ -114,6 +115,7 @@ pub fn numbers_at<const N: usize>(text: &[u8], at: usize, n: usize) -> [usize; N
     xs
 }
 
+// The same as draws. Inner form.
 pub fn draws_at<const N: usize>(text: &[u8], at: usize, n: usize) -> [u64; N]
     requires { (n ≤ N) × (N ≤ 65536) }
     ensures { (N ≡ length result) × (take n result ≡ words_from text.now at n) }
