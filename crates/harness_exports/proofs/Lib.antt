@@ -1,2 +1,3 @@
 -- Laws of what the harness gets.
 pub mod Reported
+pub mod Next

@@ -1,10 +1,11 @@
 -- The place of a mirror, the search for the first fault, and what its cause can be.
 use Prim.Native.Nat.{ℕ, zero, suc, ◌+◌, ◌*◌, ◌/◌, ◌%◌, ◌<◌, ◌≤◌}
 use mathlib.Core.Path.{◌≡◌, refl, sym, ap, ◌∙◌}
+use mathlib.Core.Bool.{Bool, true, false, cond}
 use mathlib.Core.List.{List}
 use native.Mathlib.Omega.{arith}
 use borrow.Author.Tests.{lt-ltb, le-ltb, ltb-true}
-use lib.Dec.{ltb}
+use lib.Dec.{eqb, ltb}
 use lib.IntN.{ℤ}
 use Rattle.lists.specs.Lists.{first_to}
 use Rattle.lists.proofs.Matrix.{row_below, column_below, cell_below}
@@ -14,7 +15,7 @@ use Rattle.std.proofs.Common.{Err}
 use Rattle.intake_answers.specs.declared.IntakeError.{IntakeError}
 use Rattle.intake_answers.specs.declared.IntakeError.TheVariants.{InvalidCorrelationMatrix, TooLarge, CellCount, Range, Diagonal, Mirror}
 use Rattle.intake_answers.specs.Answers.{number_of}
-use Rattle.intake.specs.Intake.{caused, cause_at, first_fault, fault_of}
+use Rattle.intake.specs.Intake.{in_range, on_diagonal, same_z, cell_of, cause_of, caused, cause_at, first_fault, fault_of}
 
 -- a book that has a place has a name
 pub some_names : (n t : ℕ) → t < n * n → 0 < n
@@ -38,6 +39,20 @@ pub fault_none : (cells : List ℤ) (n t count : ℕ) → first_to (λ j. ltb 0 
 unfolding first_fault
 fault_none cells n t count h e q = sym e ∙ sym h ∙ ap (first_to _) (e ∙ q)
 
+-- a cause is 0, 21, 22 or 23
+cond_range : (a b c : Bool) (k : ℕ) → k ≡ cond a (cond b (cond c 0 23) 22) 21 → (k ≡ 0 → ⊥) → (k ≡ 21 → ⊥) → (k ≡ 22 → ⊥) → k ≡ 23
+cond_range true true true k e f g h = absurd (f e)
+cond_range true true false k e f g h = e
+cond_range true false c k e f g h = absurd (h e)
+cond_range false b c k e f g h = absurd (g e)
+
+pub third_cause : (cells : List ℤ) (n t : ℕ) {k : ℕ} → k ≡ cause_at cells n t → (k ≡ 0 → ⊥) → (k ≡ 21 → ⊥) → (k ≡ 22 → ⊥) → k ≡ 23
+unfolding cause_at cause_of
+third_cause cells n t {k} e =
+    let x = cell_of cells t in
+    let y = cell_of cells (t % n * n + t / n) in
+    cond_range (in_range x) (on_diagonal x (eqb (t / n) (t % n))) (same_z x y) k e
+
 -- the first fault has a cause
 pub first_cause : (cells : List ℤ) (n : ℕ) → first_fault cells n < n * n → 0 < cause_at cells n (first_fault cells n)
 unfolding first_fault
@@ -51,6 +66,12 @@ no_fault cells n {t} e h = rw (← e, le-ltb t (n * n) h)
 pub is_fault : (cells : List ℤ) (n : ℕ) {t k : ℕ} → t ≡ first_fault cells n → t < n * n → k ≡ cause_at cells n t → record { number = k; place = t } ≡ fault_of cells n
 unfolding fault_of whenever
 is_fault cells n {t} e h q = rw (← e, lt-ltb t (n * n) h, q)
+
+pub third_fault : (cells : List ℤ) (n : ℕ) {t k : ℕ} → t ≡ first_fault cells n → t < n * n → k ≡ cause_at cells n t → (k ≡ 21 → ⊥) → (k ≡ 22 → ⊥) → record { number = 23; place = t } ≡ fault_of cells n
+third_fault cells n {t} {k} e h q f g =
+    let p : 0 < cause_at cells n t = rw e (first_cause cells n (rw (← e) h)) in
+    let z : k ≡ 23 = third_cause cells n t q (λ y. let w : ⊥ = omega (arith, p, q, y) in w) f g in
+    is_fault cells n e h (sym z ∙ q)
 
 -- a cell without a cause, and one with a cause
 caused_some : (k t : ℕ) → 0 < k → caused k t ≡ record { number = k; place = t }

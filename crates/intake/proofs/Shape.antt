@@ -3,6 +3,7 @@ use Prim.Native.Nat.{ℕ, ◌*◌, ◌≤◌}
 use mathlib.Core.Path.{◌≡◌, refl, sym, ap, ◌∙◌}
 use mathlib.Core.Bool.{Bool, true, false}
 use mathlib.Core.List.{List}
+use native.Mathlib.Omega.{arith}
 use borrow.Author.Tests.{eq-eqb, ne_eqb}
 use lib.Dec.{ltb}
 use lib.IntN.{ℤ}
@@ -66,6 +67,10 @@ module _ (cells : List ℤ) (rows cols : ℕ) where
   pub shape_refuses : {k : ℕ} → (shape_of rows cols (length cells) true).number ≡ k → (k ≡ 0 → ⊥) → refused k ≡ intake_of cells rows cols
   unfolding intake_of
   shape_refuses e h = above (shape_of rows cols (length cells) true) (fault_of cells rows) (shape_plain rows cols (length cells)).placeless e h
+
+  pub shape_fifth : {k : ℕ} → (shape_of rows cols (length cells) true).number ≡ k → (k ≡ 0 → ⊥) → (k ≡ 2 → ⊥) → (k ≡ 4 → ⊥) → refused 5 ≡ intake_of cells rows cols
+  shape_fifth e a b c =
+      shape_refuses ((shape_plain rows cols (length cells)).five (λ z. a (sym e ∙ z)) (λ z. b (sym e ∙ z)) (λ z. c (sym e ∙ z))) (λ z. omega (arith, z))
 
   pub shape_passes : (shape_of rows cols (length cells) true).number ≡ 0 → {q : Refusal} → q ≡ fault_of cells rows → q ≡ intake_of cells rows cols
   unfolding intake_of

@@ -1,3 +1,4 @@
--- Laws of a program's tests on a list, and of averages.
+-- Laws of a program's tests on a list and on a double, and of averages.
 pub mod All
 pub mod Averages
+pub mod Floats

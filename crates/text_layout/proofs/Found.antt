@@ -47,7 +47,7 @@ pub record SmallRead (s : List ℕ) (p bound stop v q : ℕ) : Type 0 where
   pub value : spelled 10 s p (run_of 10 s p 19) ≡ v
   pub end : p + run_of 10 s p 19 + 1 ≡ q
 
-small_taken : (s : List ℕ) (p bound stop : ℕ) (a : Small) → small_at s p bound stop ≡ Some a → SmallRead s p bound stop a.value a.end
+pub small_taken : (s : List ℕ) (p bound stop : ℕ) (a : Small) → small_at s p bound stop ≡ Some a → SmallRead s p bound stop a.value a.end
 unfolding small_at
 small_taken s p bound stop a e =
     let k = run_of 10 s p 19 in
@@ -68,7 +68,7 @@ pub record HeadRead (s : List ℕ) (n r d p : ℕ) : Type 0 where
   pub repeats : small_at s second (2 ^ 32 - 1) space ≡ small_number r third
   pub draws : small_at s third 1024 newline ≡ small_number d p
 
-head_taken : (s : List ℕ) (h : Head) → head_of s ≡ Some h → HeadRead s h.names h.repeats h.draws h.end
+pub head_taken : (s : List ℕ) (h : Head) → head_of s ≡ Some h → HeadRead s h.names h.repeats h.draws h.end
 unfolding head_of
 head_taken s h e =
     let a = taken (small_at s 0 12 space) _ h e in

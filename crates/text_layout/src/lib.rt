@@ -24,18 +24,18 @@ pub struct Run {
 
 // A number of the first line, and the place behind the byte that ends it.
 #[derive(Clone, Copy)]
-struct Small {
-    value: usize,
-    end: usize,
+pub struct Small {
+    pub value: usize,
+    pub end: usize,
 }
 
 // What the first line says, and the place behind it.
 #[derive(Clone, Copy)]
-struct Head {
-    names: usize,
-    repeats: usize,
-    draws: usize,
-    end: usize,
+pub struct Head {
+    pub names: usize,
+    pub repeats: usize,
+    pub draws: usize,
+    pub end: usize,
 }
 
 // Names, repeats, count of draws, and the places where the cells and the draws start.

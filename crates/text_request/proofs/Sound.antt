@@ -92,7 +92,7 @@ width_exact s p (suc k) h e f =
     lt_ten : {x : ℕ} (k : ℕ) → k ≡ 0 → x < 10 ^ suc k → x < 10
     lt_ten k w h = let q = rw w at h in omega arith
 
-small_off : (s : List ℕ) (p bound c v q : ℕ) → 0 < c → small_at s p bound c ≡ small_number v q → drop p s ≡ numeral 10 v ++ (c ∷ drop q s)
+pub small_off : (s : List ℕ) (p bound c v q : ℕ) → 0 < c → small_at s p bound c ≡ small_number v q → drop p s ≡ numeral 10 v ++ (c ∷ drop q s)
 small_off s p bound c v q h e =
     let k = run_of 10 s p 19 in
     let a = small_read_at s p bound c v q e in
