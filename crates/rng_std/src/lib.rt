@@ -37,13 +37,24 @@ fn output(s: u64) -> u32
 fn key_of(seed: u64) -> [u32; 8]
     ensures { result ≡ key_of seed }
 {
-    let mut key = lists::buffer::<u32, 8>(0);
-    let mut s = seed;
-    for word in key.iter_mut() {
-        s = advance(s);
-        *word = output(s);
-    }
-    key
+    let s1 = advance(seed);
+    let s2 = advance(s1);
+    let s3 = advance(s2);
+    let s4 = advance(s3);
+    let s5 = advance(s4);
+    let s6 = advance(s5);
+    let s7 = advance(s6);
+    let s8 = advance(s7);
+    [
+        output(s1),
+        output(s2),
+        output(s3),
+        output(s4),
+        output(s5),
+        output(s6),
+        output(s7),
+        output(s8),
+    ]
 }
 
 // The key in a generator's list.
