@@ -147,7 +147,7 @@ for document in ["README.md"] + [p for p in below("docs") if p != "docs/REVIEW.m
         for path in re.findall(r"(?<![\w/.<-])(?:crates|harness|docs|bindings|include)/[\w/.+-]*\w", line):
             if "/NAME" not in path:
                 has(where, os.path.exists(path), f"no {path}")
-        if document in ("docs/CHANGES.md", "docs/PORT.md", "docs/DESIGN-PASS.md"):
+        if document in ("docs/CHANGES.md", "docs/PORT.md", "docs/DESIGN-PASS.md", "docs/LOOK-BACK.md"):
             continue
         for names, path in re.findall(r"((?:`[\w-]+`(?:, | and )?)+) \((crates/[\w/.+-]+\.(?:antt|rt))", line):
             for name in re.findall(r"`([^`]+)`", names):
